@@ -69,6 +69,7 @@ enum {
     CAMXPT_E_ROUNDS = -10,   /**< there are no rounds, or more than 65,535 */
     CAMXPT_E_REQUESTS = -11, /**< there are more than 1,048,576 requests */
     CAMXPT_E_CAP = -12,      /**< a cap can't be one of the recording */
+    CAMXPT_E_DONE = -13,     /**< a request was completed before it was started */
     /* refusals: the first one that holds, in this order; nothing has changed */
     CAMXPT_HISTORY_FULL = 1,
     CAMXPT_NO_DEVICE = 2,
@@ -144,6 +145,7 @@ static inline const char *camxpt_code_name(camxpt_code code)
     case CAMXPT_E_ROUNDS: return "BadRounds";
     case CAMXPT_E_REQUESTS: return "TooManyRequests";
     case CAMXPT_E_CAP: return "BadCap";
+    case CAMXPT_E_DONE: return "BadDone";
     case CAMXPT_HISTORY_FULL: return "HistoryFull";
     case CAMXPT_NO_DEVICE: return "NoDevice";
     case CAMXPT_NO_ADAPTER: return "NoAdapter";
@@ -384,6 +386,11 @@ enum {
     CAMXPT_NO_LAST = 0
 };
 
+/** In place of the round of a request's completion: it isn't known. */
+enum {
+    CAMXPT_NO_DONE = 0
+};
+
 /** A request of a recording. One that was sent again is several: the last round of each but the last is the round before the
  *  next one arrives. */
 typedef struct camxpt_request {
@@ -393,6 +400,8 @@ typedef struct camxpt_request {
     uint32_t last;     /**< the last round in which it could have been started, or CAMXPT_NO_LAST */
     uint32_t start;    /**< the round in which it was started */
     uint8_t driver;    /**< who asked for it */
+    /** the round in which it was completed, or CAMXPT_NO_DONE: not before its start, but it may be after the last round */
+    uint32_t done;
 } camxpt_request;
 
 #if SIZE_MAX != UINT64_MAX
@@ -462,13 +471,14 @@ CAMXPT_AT_(camxpt_cap, number, 4);
 CAMXPT_AT_(camxpt_cap, first, 8);
 CAMXPT_AT_(camxpt_cap, last, 12);
 CAMXPT_AT_(camxpt_cap, most, 16);
-CAMXPT_SIZE_(camxpt_request, 24);
+CAMXPT_SIZE_(camxpt_request, 28);
 CAMXPT_AT_(camxpt_request, device, 0);
 CAMXPT_AT_(camxpt_request, priority, 4);
 CAMXPT_AT_(camxpt_request, arrival, 8);
 CAMXPT_AT_(camxpt_request, last, 12);
 CAMXPT_AT_(camxpt_request, start, 16);
 CAMXPT_AT_(camxpt_request, driver, 20);
+CAMXPT_AT_(camxpt_request, done, 24);
 
 /* ---- the library's own symbols. Call the functions below them, which test for null: here no pointer may be null -------- */
 
@@ -748,15 +758,16 @@ CAMXPT_NODISCARD static inline camxpt_code camxpt_carry(camxpt *from, camxpt *to
  *  set to its length, at CAMXPT_E_SPACE too, so a call with (NULL, 0) asks for the length.
  *
  *  The configuration is as for camxpt_open_with, but its lanes aren't read: a recording has none. The unit says how long a
- *  round is; it may be null. There may be at most 1,048,576 requests, in any order.
+ *  round is; it may be null. There may be at most 1,048,576 requests, in any order. If one of them says when it was completed,
+ *  the text is of version 2, `camrecord2`, which says so of each that does.
  *
  *  Answers what is wrong first, in this order: CAMXPT_E_UNIT; CAMXPT_E_ROUNDS; CAMXPT_E_REQUESTS; a CAMXPT_FAULT_*;
  *  CAMXPT_E_CAP, if a cap's kind is none, if there is no such device, adapter or link, if the cap doesn't come after the caps
  *  before it, if it isn't so that 1 <= first <= last <= rounds, or if it is for more than 65,535; or, of a request, the first
- *  of CAMXPT_CAUSE_NO_DEVICE, _BAD_PRIORITY, _BAD_WINDOW (not 1 <= arrival <= last <= rounds), _EARLY (it was started before it
- *  arrived), _LATE (after its last round), and _DEVICE_FULL, _ADAPTER_FULL and _LINK_FULL (beside the requests before it, more
- *  were started in its round than the cap). *wrong is set to the number of the first such cap or request, from 0 on, and isn't
- *  set otherwise. Or answers CAMXPT_E_MEMORY. */
+ *  of CAMXPT_E_DONE (it was completed before it was started), CAMXPT_CAUSE_NO_DEVICE, _BAD_PRIORITY, _BAD_WINDOW (not
+ *  1 <= arrival <= last <= rounds), _EARLY (it was started before it arrived), _LATE (after its last round), and _DEVICE_FULL,
+ *  _ADAPTER_FULL and _LINK_FULL (beside the requests before it, more were started in its round than the cap). *wrong is set to
+ *  the number of the first such cap or request, from 0 on, and isn't set otherwise. Or answers CAMXPT_E_MEMORY. */
 CAMXPT_NODISCARD static inline camxpt_code camxpt_recording(const camxpt_config *c, const camxpt_span *unit, uint32_t rounds,
                                                             const camxpt_cap *caps, size_t cap_count,
                                                             const camxpt_request *requests, size_t request_count,
@@ -768,7 +779,7 @@ CAMXPT_NODISCARD static inline camxpt_code camxpt_recording(const camxpt_config 
     static const camxpt_device no_device = {0, 0, 0, 0};
     static const camxpt_span no_span = {0, 0};
     static const camxpt_cap no_cap = {0, 0, 0, 0, 0};
-    static const camxpt_request no_request = {0, 0, 0, 0, 0, 0};
+    static const camxpt_request no_request = {0, 0, 0, 0, 0, 0, 0};
     uint8_t no_byte = 0;
 
     if (!c || !needed || !wrong || (!c->weights && c->weight_count) || (!c->links && c->link_count) ||

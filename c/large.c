@@ -104,7 +104,8 @@ static void write_recording(const char *path, size_t count)
         exit(EXIT_FAILURE);
     for (size_t k = 0; k <= count; k++) {
         const uint32_t arrival = (uint32_t)(k / WIDE) + 1;
-        const camxpt_request one = {(uint32_t)(k % 2), NORMAL, arrival, CAMXPT_NO_LAST, arrival + 1, (uint8_t)(k % 256)};
+        const camxpt_request one = {(uint32_t)(k % 2), NORMAL,               arrival,       CAMXPT_NO_LAST,
+                                    arrival + 1,       (uint8_t)(k % 256), CAMXPT_NO_DONE};
         requests[k] = one;
     }
     if (count == MOST)

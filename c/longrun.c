@@ -35,7 +35,7 @@ static void want(camxpt_code code, const char *call)
 /* A CCB has one try more, which waits from the round `arrival` on. */
 static void add_try(uint32_t ccb, uint32_t disk, uint32_t priority, uint32_t arrival)
 {
-    const camxpt_request one = {disk, priority, arrival, CAMXPT_NO_LAST, 0, DRIVER};
+    const camxpt_request one = {disk, priority, arrival, CAMXPT_NO_LAST, 0, DRIVER, CAMXPT_NO_DONE};
 
     of_ccb[ccb] = count;
     tries[count++] = one;

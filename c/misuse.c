@@ -45,7 +45,7 @@ void __wrap_free(void *old)
     __real_free(old);
 }
 
-enum { LEAST = -12, MOST = 71 };
+enum { LEAST = -13, MOST = 71 };
 
 static unsigned checks;
 static bool reached[MOST - LEAST + 1];
@@ -566,7 +566,7 @@ static const struct recording plain = {
     {5, CAMXPT_MILLISECONDS},
     3,
     {{CAMXPT_CAP_DEVICE, 1, 1, 2, 1}, {CAMXPT_CAP_ADAPTER, 0, 2, 3, 1}},
-    {{1, 1152, 1, 2, 1, 7}, {0, 896, 1, CAMXPT_NO_LAST, 3, 201}},
+    {{1, 1152, 1, 2, 1, 7, CAMXPT_NO_DONE}, {0, 896, 1, CAMXPT_NO_LAST, 3, 201, CAMXPT_NO_DONE}},
 };
 static const char plain_text[] = "camrecord1,a,b,c,d,e,f,g\nunit,5,ms,,,,,\nrounds,3,,,,,,\n"
                                  "weight,255,16,,,,,\nweight,511,8,,,,,\nweight,767,4,,,,,\n"
@@ -620,6 +620,7 @@ static void wrong_recordings(void)
     WRONG(r.caps[0].most = 65536, CAMXPT_E_CAP, 0);
     WRONG(r.caps[1] = r.caps[0], CAMXPT_E_CAP, 1);
     WRONG(r.caps[0] = plain.caps[1]; r.caps[1] = plain.caps[0], CAMXPT_E_CAP, 1);
+    WRONG(r.requests[1].done = 2; r.requests[1].device = 2, CAMXPT_E_DONE, 1);
     WRONG(r.requests[1].device = 2, CAMXPT_CAUSE_NO_DEVICE, 1);
     WRONG(r.requests[0].priority = 1280; r.requests[1].device = 2, CAMXPT_CAUSE_BAD_PRIORITY, 0);
     WRONG(r.requests[0].arrival = 0, CAMXPT_CAUSE_BAD_WINDOW, 0);
@@ -643,6 +644,7 @@ static void recordings(void)
 {
     static char text[1024];
     const struct recording *r = &plain;
+    struct recording completed = plain;
     camxpt_config c = shelf;
     size_t needed = 77, wrong = NO_NUMBER;
     static const char short_text[] = "camrecord1,a,b,c,d,e,f,g\nrounds,65535,,,,,,\nweight,";
@@ -663,6 +665,11 @@ static void recordings(void)
     HOLDS(needed == sizeof plain_text - 1 && text[0] == 'x');
     DUE(write_recording(r, text, needed, &needed, &wrong), CAMXPT_OK);
     HOLDS(needed == sizeof plain_text - 1 && memcmp(text, plain_text, needed) == 0 && text[needed] == 'x');
+    /* with a completion, after the last round, the header is another, and the row says it */
+    completed.requests[1].done = 5;
+    DUE(write_recording(&completed, text, sizeof text, &needed, &wrong), CAMXPT_OK);
+    HOLDS(needed == sizeof plain_text && memcmp(text, "camrecord2", 10) == 0);
+    HOLDS(memcmp(text + 10, plain_text + 10, needed - 12) == 0 && memcmp(text + needed - 3, ",5\n", 3) == 0);
     c.device_count = 0;
     DUE(camxpt_recording(&c, NULL, 65535, NULL, 0, NULL, 0, text, sizeof text, &needed, &wrong), CAMXPT_OK);
     HOLDS(memcmp(text, short_text, sizeof short_text - 1) == 0 && wrong == NO_NUMBER && blocks == 0);

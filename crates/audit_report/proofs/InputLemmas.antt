@@ -1,5 +1,5 @@
 -- what a text is read as
-use Rattle.std.proofs.Common.{◌≡◌, ◌≤◌, ◌<◌, ℕ, Bool, true, false, cond, List, [], ◌++◌, length, take, refl, sym, ap, subst, ◌∙◌, arith, append-nil, nat_le, Option, Some, None, Result, Ok, Err, IfOk, IfErr, IfSome, bytes_eq, codes, ◌∷◌, ◌&&◌, ◌==◌, rules, tests}
+use Rattle.std.proofs.Common.{◌≡◌, ◌≤◌, ◌<◌, ℕ, Bool, true, false, cond, List, [], ◌++◌, length, refl, sym, ap, subst, ◌∙◌, arith, append-nil, nat_le, Option, Some, None, Result, Ok, Err, IfOk, IfErr, IfSome, bytes_eq, codes, ◌∷◌, ◌&&◌, ◌==◌, rules, tests}
 use Rattle.std.proofs.lemmas.Bool.{leb-true, le-leb, lt-leb, and_parts}
 use Rattle.std.proofs.lemmas.Slice.Eq.{bytes_eq-Decides}
 use Rattle.audit_report.specs.Words.{MAX_BYTES, Past, Explains, IsLongWhole}
@@ -8,6 +8,8 @@ use Rattle.audit_report.specs.Reading.{AsRead, as_either, as_trace, parsed, pars
 use Rattle.audit_report.specs.declared.input.Input.TheVariants as input
 use Rattle.audit_report.specs.declared.audit_fault.AuditFault.{AuditFault}
 use Rattle.audit_report.specs.declared.audit_fault.AuditFault.TheVariants as fault
+use Rattle.cam_types.proofs.LeastLemmas.{find_passes}
+use Rattle.recording_file.specs.Rows.{header_at}
 use Rattle.recording_file.specs.Words.{name_text}
 use Rattle.record_text.specs.Header.{has_letters, is_header}
 use Rattle.record_text.specs.Fields.{field_of}
@@ -17,7 +19,7 @@ use Rattle.recording_file.specs.declared.limits.TheConstants.{MAX_RECORDING_BYTE
 use Rattle.recording_file.specs.Reading as recordings
 use Rattle.recording_file.specs.Recordings as recorded
 use Rattle.record_text.specs.Text.{Row, records_in}
-use Rattle.recording_file.specs.Whole.{max_bytes, IsTooLong}
+use Rattle.recording_file.specs.Whole.{begins_recording, max_bytes, IsTooLong}
 use Rattle.recording_file.specs.declared.recording_fault.RecordingFault.{RecordingFault}
 use Rattle.recording_file.specs.declared.recording_fault.RecordingFault.TheVariants as recording_fault
 use Rattle.recording_file.proofs.LongLemmas.{too_long}
@@ -33,7 +35,7 @@ use Rattle.trace_file.proofs.WholeLaws as trace_again
 
 pub most_least : (text : List ℕ) → MAX_BYTES ≤ max_bytes text
 unfolding max_bytes
-most_least text = by (bytes_eq name_text (take 10 text))
+most_least text = by (begins_recording text)
   where
     by : (b : Bool) → MAX_BYTES ≤ cond b MAX_RECORDING_BYTES MAX_BYTES
     by true = omega arith
@@ -97,35 +99,46 @@ was_read before after text whole (input.Trace past) e =
 same_bytes : (xs ys : List ℕ) → bytes_eq xs ys ≡ true → xs ≡ ys
 same_bytes xs ys h = search (rules, tests, bytes_eq-Decides)
 
-named_recording : (row : Row) → is_header name_text row ≡ true → field_of row 0 ≡ name_text
+named_recording : (row : Row) (v : Bool) → is_header (name_text v) row ≡ true → field_of row 0 ≡ name_text v
 unfolding is_header
-named_recording row h =
-    let named = and_parts ((length row == 8) && bytes_eq (field_of row 0) name_text) (has_letters row) h in
-    same_bytes _ _ (and_parts (length row == 8) (bytes_eq (field_of row 0) name_text) named.0).1
+named_recording row v h =
+    let named = and_parts ((length row == 8) && bytes_eq (field_of row 0) (name_text v)) (has_letters row) h in
+    same_bytes _ _ (and_parts (length row == 8) (bytes_eq (field_of row 0) (name_text v)) named.0).1
 
-other_header : (row : Row) (name : List ℕ) → field_of row 0 ≡ name_text → bytes_eq name_text name ≡ false → is_header name row ≡ false
+other_header : (row : Row) (v : Bool) (name : List ℕ) → field_of row 0 ≡ name_text v → bytes_eq (name_text v) name ≡ false → is_header name row ≡ false
 unfolding is_header
-other_header row name is other = by (length row == 8)
+other_header row v name is other = by (length row == 8)
   where
     by : (b : Bool) → ((b && bytes_eq (field_of row 0) name) && has_letters row) ≡ false
     by true = rw (is, other) refl
     by false = refl
 
+-- a recording's header names its version
+header_named : (row : Row) (v : Bool) → header_at row ≡ Some v → field_of row 0 ≡ name_text v
+unfolding header_at
+header_named row v e = named_recording row v (find_passes (λ (b : Bool). is_header (name_text b) row) (false ∷ true ∷ []) v e)
+
+-- a recording's name is that of no trace
+no_trace : (v : Bool) → (bytes_eq (name_text v) (codes "camtrace1") ≡ false) × (bytes_eq (name_text v) (codes "camtrace2") ≡ false) × (bytes_eq (name_text v) (codes "camtrace3") ≡ false)
+no_trace true = (refl, refl, refl)
+no_trace false = (refl, refl, refl)
+
 -- a trace begins with no recording's header
 trace_bare : (rows : List Row) (past : Past) → traces.reading rows ≡ Ok past → recordings.reading rows ≡ Err recording_fault.BadHeader
 unfolding traces.reading traces.step recordings.reading recordings.step recordings.ended
 trace_bare [] past e = refl
-trace_bare (row ∷ rest) past e = by (is_header name_text row) refl
+trace_bare (row ∷ rest) past e = by (header_at row) refl
   where
-    by : (b : Bool) → is_header name_text row ≡ b → recordings.reading (row ∷ rest) ≡ Err recording_fault.BadHeader
-    by true is =
-        let named = named_recording row is in
-        let one = other_header row (codes "camtrace1") named refl in
-        let two = other_header row (codes "camtrace2") named refl in
-        let three = other_header row (codes "camtrace3") named refl in
+    by : (o : Option Bool) → header_at row ≡ o → recordings.reading (row ∷ rest) ≡ Err recording_fault.BadHeader
+    by (Some v) is =
+        let named = header_named row v is in
+        let others = no_trace v in
+        let one = other_header row v (codes "camtrace1") named others.0 in
+        let two = other_header row v (codes "camtrace2") named others.1 in
+        let three = other_header row v (codes "camtrace3") named others.2 in
         let none : traces.reading (row ∷ rest) ≡ Err trace_fault.BadHeader = rw (one, two, three) refl in
         absurd (let both : Ok past ≡ Err trace_fault.BadHeader = sym e ∙ none in cc)
-    by false is = rw is refl
+    by None is = rw is refl
 
 text_parsed : (text : List ℕ) (i : Input) → IsInput i → IsTextOf text i → parsed text ≡ Ok i
 unfolding parsed parsed_unheaded

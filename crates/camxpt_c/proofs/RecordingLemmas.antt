@@ -1,13 +1,13 @@
 -- Recordings in the making, and what is wrong with them first.
-use Rattle.std.proofs.Common.{◌≡◌, ℕ, zero, suc, ◌+◌, ◌<◌, ◌≤◌, true, false, List, [], ◌∷◌, ◌++◌, map, length, get_or, take, drop, refl, sym, ap, ◌∙◌, arith, append_assoc, Option, Some, None}
+use Rattle.std.proofs.Common.{◌≡◌, ℕ, zero, suc, ◌+◌, ◌<◌, ◌≤◌, Bool, true, false, List, [], ◌∷◌, ◌++◌, map, length, get_or, take, drop, refl, sym, ap, ◌∙◌, arith, append_assoc, Option, Some, None}
 use Rattle.std.proofs.lemmas.List.{take_more, take_all, length-take-le, length-map, append-nil, map-append}
 use Rattle.cam_types.specs.Lists.{prefixed, prefixed_after, first_answer}
 use Rattle.cam_types.specs.Topology.{Topology}
 use Rattle.cam_types.proofs.ListLemmas.{first_answer-append, first_answer-push}
 use Rattle.recording_file.specs.declared.cap.Cap.{Cap}
-use Rattle.recording_file.specs.Recorded.{Recorded, request_cause}
+use Rattle.recording_file.specs.Recorded.{Recorded}
 use Rattle.camxpt_c.specs.RecordShapes.{cap_of, request_of}
-use Rattle.camxpt_c.specs.Recordings.{RecordFault, Item, is_next, cap_fault, numbered, request_fault}
+use Rattle.camxpt_c.specs.Recordings.{RecordFault, Item, is_next, cap_fault, fault_at, request_fault}
 use Rattle.camxpt_c.specs.declared.codes.TheConstants.{E_CAP}
 use Rattle.camxpt_c.specs.declared.record_shapes.CamxptCap.{CamxptCap}
 use Rattle.camxpt_c.specs.declared.record_shapes.CamxptRequest.{CamxptRequest}
@@ -78,23 +78,19 @@ cap_right first now xs n d lt so_far none good =
 
 -- ---- requests
 
-wrong_request : (rounds : ℕ) (c : Topology) (caps : List Cap) (xs : List CamxptRequest) (n : ℕ) (x : CamxptRequest) (e : RecordFault) → n < length xs → numbered n (request_cause rounds c caps (map request_of (take n xs), request_of x)) ≡ Some e → request_fault rounds c caps (take n xs, x) ≡ Some e
+answer_at : (completions : Bool) (rounds : ℕ) (c : Topology) (caps : List Cap) (xs : List CamxptRequest) (n : ℕ) (x : CamxptRequest) (answer : Option RecordFault) → n < length xs → fault_at n completions rounds c caps (map request_of (take n xs), request_of x) ≡ answer → request_fault completions rounds c caps (take n xs, x) ≡ answer
 unfolding request_fault
-wrong_request rounds c caps xs n x e lt why = let many = length-take-le n xs (omega arith) in rw many why
+answer_at completions rounds c caps xs n x answer lt why = let many = length-take-le n xs (omega arith) in rw many why
 
-right_request : (rounds : ℕ) (c : Topology) (caps : List Cap) (before : List CamxptRequest) (x : CamxptRequest) → request_cause rounds c caps (map request_of before, request_of x) ≡ None → request_fault rounds c caps (before, x) ≡ None
-unfolding request_fault
-right_request rounds c caps before x no_cause = rw no_cause refl
-
-pub request_wrong : (first now : Recorded) (xs : List CamxptRequest) (n : ℕ) (d : CamxptRequest) (e : RecordFault) → n < length xs → now ≡ record first { requests = map request_of (take n xs) } → first_answer (request_fault first.rounds first.config first.caps) (prefixed (take n xs)) ≡ None
-    → numbered n (request_cause now.rounds now.config now.caps (now.requests, request_of (get_or xs n d))) ≡ Some e → first_answer (request_fault first.rounds first.config first.caps) (prefixed xs) ≡ Some e
+pub request_wrong : (first now : Recorded) (xs : List CamxptRequest) (n : ℕ) (d : CamxptRequest) (e : RecordFault) → n < length xs → now ≡ record first { requests = map request_of (take n xs) } → first_answer (request_fault first.completions first.rounds first.config first.caps) (prefixed (take n xs)) ≡ None
+    → fault_at n now.completions now.rounds now.config now.caps (now.requests, request_of (get_or xs n d)) ≡ Some e → first_answer (request_fault first.completions first.rounds first.config first.caps) (prefixed xs) ≡ Some e
 request_wrong first now xs n d e lt so_far none bad =
-    fault_here (request_fault first.rounds first.config first.caps) xs n d e lt none (wrong_request first.rounds first.config first.caps xs n (get_or xs n d) e lt (rw so_far at bad))
+    fault_here (request_fault first.completions first.rounds first.config first.caps) xs n d e lt none (answer_at first.completions first.rounds first.config first.caps xs n (get_or xs n d) (Some e) lt (rw so_far at bad))
 
-pub request_right : (first now : Recorded) (xs : List CamxptRequest) (n : ℕ) (d : CamxptRequest) → n < length xs → now ≡ record first { requests = map request_of (take n xs) } → first_answer (request_fault first.rounds first.config first.caps) (prefixed (take n xs)) ≡ None
-    → request_cause now.rounds now.config now.caps (now.requests, request_of (get_or xs n d)) ≡ None → first_answer (request_fault first.rounds first.config first.caps) (prefixed (take (n + 1) xs)) ≡ None
+pub request_right : (first now : Recorded) (xs : List CamxptRequest) (n : ℕ) (d : CamxptRequest) → n < length xs → now ≡ record first { requests = map request_of (take n xs) } → first_answer (request_fault first.completions first.rounds first.config first.caps) (prefixed (take n xs)) ≡ None
+    → fault_at n now.completions now.rounds now.config now.caps (now.requests, request_of (get_or xs n d)) ≡ None → first_answer (request_fault first.completions first.rounds first.config first.caps) (prefixed (take (n + 1) xs)) ≡ None
 request_right first now xs n d lt so_far none good =
-    no_fault_more (request_fault first.rounds first.config first.caps) xs n d lt none (right_request first.rounds first.config first.caps (take n xs) (get_or xs n d) (rw so_far at good))
+    no_fault_more (request_fault first.completions first.rounds first.config first.caps) xs n d lt none (answer_at first.completions first.rounds first.config first.caps xs n (get_or xs n d) None lt (rw so_far at good))
 
 -- there is room for one request more
 pub request_few : (first now : Recorded) (xs : List CamxptRequest) (n most : ℕ) → n < length xs → length xs ≤ most → now ≡ record first { requests = map request_of (take n xs) } → length now.requests < most

@@ -1,5 +1,6 @@
 -- what the structs of a recording say
-use Rattle.std.specs.Prelude.{ℕ, ◌==◌, Option, Some, None, if◌then◌else◌}
+use Rattle.std.specs.Prelude.{ℕ, ◌==◌, Bool, not, List, Option, Some, None, if◌then◌else◌}
+use Rattle.std.specs.List.{list_any}
 use Rattle.recording_file.specs.declared.cap.Cap.{Cap}
 use Rattle.recording_file.specs.declared.part.PartKind.{PartKind}
 use Rattle.recording_file.specs.declared.part.PartKind.TheVariants as kind
@@ -10,7 +11,7 @@ use Rattle.recording_file.specs.declared.span.TimeUnit.TheVariants as time
 use Rattle.camxpt_c.specs.declared.record_shapes.CamxptCap.{CamxptCap}
 use Rattle.camxpt_c.specs.declared.record_shapes.CamxptRequest.{CamxptRequest}
 use Rattle.camxpt_c.specs.declared.record_shapes.CamxptSpan.{CamxptSpan}
-use Rattle.camxpt_c.specs.declared.record_shapes.TheConstants.{NANOSECONDS, MICROSECONDS, MILLISECONDS, CAP_DEVICE, CAP_ADAPTER, NO_LAST}
+use Rattle.camxpt_c.specs.declared.record_shapes.TheConstants.{NANOSECONDS, MICROSECONDS, MILLISECONDS, CAP_DEVICE, CAP_ADAPTER, NO_LAST, NO_DONE}
 
 -- the unit of time of a number, where SECONDS is the last
 abbrev pub time_of : ℕ → TimeUnit
@@ -35,6 +36,10 @@ cap_of c = record { part = record { kind = kind_of c.kind; number = c.number }; 
 abbrev pub last_of : ℕ → Option ℕ
 last_of n = if n == NO_LAST then None else Some n
 
+-- the round of a completion, or none where it isn't known
+abbrev pub done_of : ℕ → Option ℕ
+done_of n = if n == NO_DONE then None else Some n
+
 -- the request that the struct says: its start is the round in which it was sent
 abbrev pub request_of : CamxptRequest → Request
 request_of q = record {
@@ -44,4 +49,9 @@ request_of q = record {
   arrival = q.arrival;
   last = last_of q.last;
   sent = q.start;
+  done = done_of q.done;
 }
+
+-- one of these requests says when it was completed
+abbrev pub any_done : List CamxptRequest → Bool
+any_done qs = list_any (λ (q : CamxptRequest). not (q.done == NO_DONE)) qs

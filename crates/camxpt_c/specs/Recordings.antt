@@ -6,16 +6,17 @@ use Rattle.cam_types.specs.Topology.{Topology, config_fault}
 use Rattle.cam_types.specs.declared.config_fault.ConfigFault.{ConfigFault}
 use Rattle.recording_file.specs.Caps.{is_cap}
 use Rattle.recording_file.specs.Counts.{counts_of}
-use Rattle.recording_file.specs.Recorded.{Recorded, request_cause}
+use Rattle.recording_file.specs.Recorded.{Recorded, is_done_right, request_cause}
 use Rattle.recording_file.specs.declared.cap.Cap.{Cap}
 use Rattle.recording_file.specs.declared.cause.RequestFault.{RequestFault}
+use Rattle.recording_file.specs.declared.request.Request.{Request}
 use Rattle.recording_file.specs.declared.limits.TheConstants.{MAX_RECORDED_ROUNDS, MAX_REQUESTS}
 use Rattle.recording_file.specs.Recordings.{IsRecordingText}
 use Rattle.recording_file.specs.Writing.{recording_text}
 use Rattle.camxpt_c.specs.Codes.{fault_code, cause_code}
-use Rattle.camxpt_c.specs.RecordShapes.{span_of, cap_of, request_of}
+use Rattle.camxpt_c.specs.RecordShapes.{span_of, cap_of, request_of, any_done}
 use Rattle.camxpt_c.specs.Tracing.{IsCopy}
-use Rattle.camxpt_c.specs.declared.codes.TheConstants.{E_MEMORY, E_UNIT, E_ROUNDS, E_REQUESTS, E_CAP}
+use Rattle.camxpt_c.specs.declared.codes.TheConstants.{E_MEMORY, E_UNIT, E_ROUNDS, E_REQUESTS, E_CAP, E_DONE}
 use Rattle.camxpt_c.specs.declared.record_shapes.CamxptCap.{CamxptCap}
 use Rattle.camxpt_c.specs.declared.record_shapes.CamxptRequest.{CamxptRequest}
 use Rattle.camxpt_c.specs.declared.record_shapes.CamxptSpan.{CamxptSpan}
@@ -31,7 +32,7 @@ pub record Handed : Type 0 where
   pub caps : List CamxptCap
   pub requests : List CamxptRequest
 
--- the recording of it: all of it, in its order, and no names
+-- the recording of it: all of it, in its order, and no names; completions are recorded if a request says one
 abbrev pub recorded_of : Handed → Recorded
 recorded_of h = record {
   unit = span_of h.span;
@@ -40,6 +41,7 @@ recorded_of h = record {
   names = [];
   caps = map cap_of h.caps;
   requests = map request_of h.requests;
+  completions = any_done h.requests;
 }
 
 -- what is wrong with the unit, the rounds or the number of requests
@@ -66,15 +68,21 @@ cap_fault rounds c m = if is_next rounds c (map cap_of m.0) m.1 then None else S
 abbrev pub numbered : ℕ → Option RequestFault → Option RecordFault
 numbered number cause = option_map (λ why. Item (cause_code why) number) cause
 
--- what is wrong with a request, beside those before it
-unfoldable pub request_fault : ℕ → Topology → List Cap → List CamxptRequest × CamxptRequest → Option RecordFault
-request_fault rounds c caps m = numbered (length m.0) (request_cause rounds c caps (map request_of m.0, request_of m.1))
+-- what is wrong with the request of this number, beside those before it: that it was completed before its start, or the first
+-- cause that it can't be one of the recording
+abbrev pub fault_at : ℕ → Bool → ℕ → Topology → List Cap → List Request × Request → Option RecordFault
+fault_at number completions rounds c caps m =
+    if is_done_right completions m.1 then numbered number (request_cause rounds c caps m) else Some (Item E_DONE number)
+
+-- what is wrong with a request, beside those before it: how many these are is its number
+unfoldable pub request_fault : Bool → ℕ → Topology → List Cap → List CamxptRequest × CamxptRequest → Option RecordFault
+request_fault completions rounds c caps m = fault_at (length m.0) completions rounds c caps (map request_of m.0, request_of m.1)
 
 -- what is wrong first with a cap, or else with a request
 unfoldable pub item_fault : Handed → Option RecordFault
 item_fault h =
     option_or (first_answer (cap_fault h.rounds h.config) (prefixed h.caps))
-    (first_answer (request_fault h.rounds h.config (map cap_of h.caps)) (prefixed h.requests))
+    (first_answer (request_fault (any_done h.requests) h.rounds h.config (map cap_of h.caps)) (prefixed h.requests))
 
 -- what is wrong first, in this order: with the unit, the rounds or the number of requests, with the configuration, with a cap,
 -- with a request

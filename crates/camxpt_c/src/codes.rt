@@ -32,6 +32,8 @@ pub const E_ROUNDS: i32 = -10;
 pub const E_REQUESTS: i32 = -11;
 /// A cap can't be one of the recording.
 pub const E_CAP: i32 = -12;
+/// A request was completed before it was started.
+pub const E_DONE: i32 = -13;
 /// There is none.
 pub const NONE: i32 = 36;
 /// CCBs wait for a decision.

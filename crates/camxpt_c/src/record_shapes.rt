@@ -2,7 +2,7 @@
 
 ghost use Rattle.std.specs.Prelude.{◌≡◌, ◌≤◌, IfSome};
 ghost use Rattle.recording_file.specs.declared.span.Span.{Span};
-ghost use Rattle.camxpt_c.specs.RecordShapes.{time_of, span_of, kind_of, cap_of, last_of, request_of};
+ghost use Rattle.camxpt_c.specs.RecordShapes.{time_of, span_of, kind_of, cap_of, last_of, done_of, request_of, any_done};
 
 use recording_file::{Cap, Part, PartKind, Request, Span, TimeUnit};
 
@@ -25,6 +25,9 @@ pub const CAP_LINK: u32 = 2;
 /// Stands for the recording's last round where a request's last round is due.
 pub const NO_LAST: u32 = 0;
 
+/// Stands for the round of a request's completion where that isn't known.
+pub const NO_DONE: u32 = 0;
+
 /// How long a round is: that many of a unit of time. If the count is 0, it isn't known.
 #[repr(C)]
 #[derive(Clone, Copy)]
@@ -44,7 +47,8 @@ pub struct CamxptCap {
     pub most: u32,
 }
 
-/// A request that was started: its last round is the last one in which it could have been.
+/// A request that was started: its last round is the last one in which it could have been. If it is known when it was
+/// completed, that is a round from its start on.
 #[repr(C)]
 #[derive(Clone, Copy)]
 pub struct CamxptRequest {
@@ -54,6 +58,7 @@ pub struct CamxptRequest {
     pub last: u32,
     pub start: u32,
     pub driver: u8,
+    pub done: u32,
 }
 
 /// How long a round is, if that is known.
@@ -117,6 +122,7 @@ pub(crate) fn request_of(shape: CamxptRequest) -> Request
         arrival: shape.arrival,
         last: last_of(shape.last),
         sent: shape.start,
+        done: done_of(shape.done),
     }
 }
 
@@ -124,4 +130,17 @@ fn last_of(last: u32) -> Option<u32>
     ensures { result ≡ last_of last }
 {
     if last == NO_LAST { None } else { Some(last) }
+}
+
+fn done_of(done: u32) -> Option<u32>
+    ensures { result ≡ done_of done }
+{
+    if done == NO_DONE { None } else { Some(done) }
+}
+
+/// Whether one of these requests says when it was completed.
+pub(crate) fn any_done(shapes: &[CamxptRequest]) -> bool
+    ensures { result ≡ any_done shapes.now }
+{
+    shapes.iter().any(|shape| shape.done != NO_DONE)
 }

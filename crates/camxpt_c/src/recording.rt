@@ -13,7 +13,7 @@ ghost use Rattle.camxpt_c.specs.declared.codes.TheConstants.{E_MEMORY};
 use crate::codes::{E_MEMORY, E_REQUESTS, E_ROUNDS, E_UNIT};
 use crate::opening::linked_config;
 use crate::record_fault::RecordFault;
-use crate::record_shapes::{CamxptCap, CamxptRequest, CamxptSpan, SECONDS, span_of};
+use crate::record_shapes::{CamxptCap, CamxptRequest, CamxptSpan, SECONDS, any_done, span_of};
 use crate::recording_items::{add_caps, add_requests};
 use crate::shapes::{CamxptAdapter, CamxptDevice, CamxptWeight};
 use crate::tracing::copy_text;
@@ -25,7 +25,8 @@ use std::alloc::{AllocError, Global};
 use std::collections::VecDeque;
 
 /// Writes the recording of these caps and requests to the start of the buffer, and gives its length. If the buffer is too
-/// small, it is left as it is. If a cap or a request can't be one of the recording, its number is given.
+/// small, it is left as it is. If a cap or a request can't be one of the recording, its number is given. The recording says
+/// when requests were completed if one of them does.
 #[unsafe(no_mangle)]
 pub extern "C" fn camxpt_raw_recording(
     alloc: Global,
@@ -170,7 +171,7 @@ fn recording_of(
     ensures ok { OnOk result (item_fault (record { config = config; span = span; rounds = rounds; caps = caps.now; requests = requests.now }) ≡ None) }
     ensures err { IfErr result (λ e. e ≢ OutOfMemory → item_fault (record { config = config; span = span; rounds = rounds; caps = caps.now; requests = requests.now }) ≡ Some e) }
 {
-    let mut recorder = Recorder::new(alloc, span_of(span), rounds, config);
+    let mut recorder = Recorder::new(alloc, span_of(span), rounds, config, any_done(requests));
     add_caps(&mut recorder, caps)?;
     add_requests(alloc, &mut recorder, requests)?;
     Ok(recorder.finish())

@@ -2,13 +2,12 @@
 
 ghost use Rattle.std.specs.Prelude.{◌≡◌, ◌≢◌, ◌<◌, ◌≤◌, ◌++◌, ◌∷◌, [], true, false, None, Some, map, length, OnOk, IfErr};
 ghost use Rattle.cam_types.specs.Lists.{prefixed, first_answer};
-ghost use Rattle.recording_file.specs.Recorded.{request_cause};
 ghost use Rattle.recording_file.specs.declared.limits.TheConstants.{MAX_REQUESTS};
 ghost use Rattle.camxpt_c.specs.RecordShapes.{cap_of, request_of};
-ghost use Rattle.camxpt_c.specs.Recordings.{is_next, cap_fault, numbered, request_fault, Item, OutOfMemory};
+ghost use Rattle.camxpt_c.specs.Recordings.{is_next, cap_fault, fault_at, request_fault, Item, OutOfMemory};
 ghost use Rattle.camxpt_c.specs.declared.codes.TheConstants.{E_CAP};
 
-use crate::codes::{E_CAP, cause_code};
+use crate::codes::{E_CAP, E_DONE, cause_code};
 use crate::record_fault::RecordFault;
 use crate::record_shapes::{CAP_LINK, CamxptCap, CamxptRequest, cap_of, request_of};
 use recording_file::{Recorder, RequestError};
@@ -58,8 +57,8 @@ pub(crate) fn add_requests(
     requires no_request { recorder.old.requests ≡ [] }
     requires few { length shapes.now ≤ MAX_REQUESTS }
     ensures made { OnOk result (recorder.new ≡ record recorder.old { requests = map request_of shapes.now }) }
-    ensures ok { OnOk result (first_answer (request_fault recorder.old.rounds recorder.old.config recorder.old.caps) (prefixed shapes.now) ≡ None) }
-    ensures err { IfErr result (λ e. e ≢ OutOfMemory → first_answer (request_fault recorder.old.rounds recorder.old.config recorder.old.caps) (prefixed shapes.now) ≡ Some e) }
+    ensures ok { OnOk result (first_answer (request_fault recorder.old.completions recorder.old.rounds recorder.old.config recorder.old.caps) (prefixed shapes.now) ≡ None) }
+    ensures err { IfErr result (λ e. e ≢ OutOfMemory → first_answer (request_fault recorder.old.completions recorder.old.rounds recorder.old.config recorder.old.caps) (prefixed shapes.now) ≡ Some e) }
 {
     for (number, shape) in shapes.iter().enumerate() {
         add_request(alloc, recorder, number, *shape)?;
@@ -76,10 +75,14 @@ fn add_request(
 ) -> Result<(), RecordFault>
     requires { length recorder.old.requests < MAX_REQUESTS }
     ensures made { OnOk result (recorder.new ≡ record recorder.old { requests = recorder.old.requests ++ request_of shape ∷ [] }) }
-    ensures ok { OnOk result (request_cause recorder.old.rounds recorder.old.config recorder.old.caps (recorder.old.requests, request_of shape) ≡ None) }
-    ensures err { IfErr result (λ e. e ≢ OutOfMemory → numbered number (request_cause recorder.old.rounds recorder.old.config recorder.old.caps (recorder.old.requests, request_of shape)) ≡ Some e) }
+    ensures ok { OnOk result (fault_at number recorder.old.completions recorder.old.rounds recorder.old.config recorder.old.caps (recorder.old.requests, request_of shape) ≡ None) }
+    ensures err { IfErr result (λ e. e ≢ OutOfMemory → fault_at number recorder.old.completions recorder.old.rounds recorder.old.config recorder.old.caps (recorder.old.requests, request_of shape) ≡ Some e) }
 {
-    match recorder.add_request(alloc, request_of(shape)) {
+    let request = request_of(shape);
+    if !recorder.takes_done(request) {
+        return Err(RecordFault::Item(E_DONE, number));
+    }
+    match recorder.add_request(alloc, request) {
         Ok(()) => Ok(()),
         Err(RequestError::Illegal(cause)) => Err(RecordFault::Item(cause_code(cause), number)),
         Err(RequestError::OutOfMemory) => Err(RecordFault::OutOfMemory),

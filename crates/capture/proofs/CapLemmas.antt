@@ -1,5 +1,6 @@
 -- the caps of a capture's recording
-use Rattle.std.proofs.Common.{◌≡◌, ℕ, ◌+◌, ◌-◌, ◌<◌, ◌≤◌, Bool, true, false, List, [], ◌∷◌, ◌++◌, length, map, refl, sym, ap, ◌∙◌, arith, Some, None, inl, inr, All, nat_le, slice_get, append_assoc, find, take, get_or, slice_index}
+use Rattle.std.proofs.Common.{◌≡◌, ℕ, ◌+◌, ◌-◌, ◌<◌, ◌≤◌, Bool, true, false, List, [], ◌∷◌, ◌++◌, length, map, refl, sym, ap, ◌∙◌, arith, Some, None, inl, inr, All, nat_le, slice_get, append_assoc, find, take, get_or, slice_index, Vec}
+use Rattle.std.specs.Global.{Global}
 use Rattle.std.specs.List.{range_with_len, flat_map}
 use Rattle.std.specs.Option.{option_map_or}
 use Rattle.std.proofs.lemmas.Bool.{and_parts, and_from, or_left, or_right, leb-true, le-leb, lt-ltb, eq-eqb, cases_eq, cases_lt}
@@ -180,6 +181,6 @@ cap_in_all c number rounds k n r there some few =
     ] refl
 
 -- the caps of a part by a row of its numbers
-pub runs_of_row : (c : Topology) (rated opened : List Bool) (qs : List Request) (p : Part) (row read : List ℕ) (usual asked kept rounds : ℕ) → read ≡ row → IsRow (cap_of c rated opened qs p) asked row → usual ≡ openings c p → asked ≡ kept → kept ≡ rounds → run_caps p (slice_index read) usual kept ≡ part_caps c rated opened qs rounds p
-runs_of_row c rated opened qs p row read usual asked kept rounds same h is ask keep =
-    rw (same, is, keep) (runs_alike p (slice_index row) (cap_of c rated opened qs p) (openings c p) rounds (λ q le. h.each q (omega arith)))
+pub runs_of_row : (c : Topology) (rated opened : List Bool) (spare : List (Vec ℕ Global)) (qs : List Request) (p : Part) (row read : List ℕ) (usual asked kept rounds : ℕ) → read ≡ row → IsRow (cap_of c rated opened spare qs p) asked row → usual ≡ openings c p → asked ≡ kept → kept ≡ rounds → run_caps p (slice_index read) usual kept ≡ part_caps c rated opened spare qs rounds p
+runs_of_row c rated opened spare qs p row read usual asked kept rounds same h is ask keep =
+    rw (same, is, keep) (runs_alike p (slice_index row) (cap_of c rated opened spare qs p) (openings c p) rounds (λ q le. h.each q (omega arith)))

@@ -1,10 +1,11 @@
 -- the caps of a part in each round
-use Rattle.std.proofs.Common.{◌≡◌, ℕ, ◌+◌, ◌<◌, Bool, true, false, List, [], ◌∷◌, ◌++◌, length, filter, take, get_or, ◌==◌, max, min, nat_lt, if◌then◌else◌, slice_index, replicate, ap, refl, ◌∙◌, arith}
+use Rattle.std.proofs.Common.{◌≡◌, ℕ, ◌+◌, ◌<◌, Bool, true, false, List, [], ◌∷◌, ◌++◌, length, filter, ◌==◌, max, min, nat_lt, if◌then◌else◌, slice_index, replicate, ap, refl, ◌∙◌, arith, Vec}
+use Rattle.std.specs.Global.{Global}
 use Rattle.std.specs.List.{range_with_len, sum_by}
 use Rattle.std.proofs.lemmas.List.{length-replicate, get_or-replicate}
 use Rattle.std.proofs.lemmas.List.Elements.{filter-append}
 use Rattle.std.proofs.lemmas.List.Sums.{sum_by_push}
-use Rattle.std.proofs.lemmas.List.{append-nil, take_more}
+use Rattle.std.proofs.lemmas.List.{append-nil}
 use Rattle.cam_types.specs.declared.device.Device.{Device}
 use Rattle.cam_types.specs.Topology.{Topology}
 use Rattle.cam_types.specs.Questions.{is_on}
@@ -13,21 +14,30 @@ use Rattle.recording_file.specs.Recorded.{load}
 use Rattle.recording_file.specs.declared.part.Part.{Part}
 use Rattle.recording_file.specs.declared.request.Request.{Request}
 use Rattle.recording_file.proofs.ListLemmas.{range_more}
-use Rattle.capture.specs.Captured.{is_measured, is_open, own_cap, open_cap, cap_of, sum_on}
+use Rattle.capture.specs.Captured.{is_measured, is_open, own_cap, open_cap, cap_of, sum_on, spare_in, room}
 use Rattle.capture.specs.Loads.{IsRow, waiting}
 use Rattle.capture.specs.declared.capture_fault.TheConstants.{MAX_IN_ROUND}
 
 -- by itself or not
-pub row_of_open : (c : Topology) (rated opened : List Bool) (qs : List Request) (p : Part) (last : ℕ) (row : List ℕ) → is_open opened p ≡ true → IsRow (open_cap c rated qs p) last row → IsRow (cap_of c rated opened qs p) last row
-row_of_open c rated opened qs p last row is h = record { size = h.size; each = λ r few. h.each r few ∙ rw is refl }
+pub row_of_open : (c : Topology) (rated opened : List Bool) (spare : List (Vec ℕ Global)) (qs : List Request) (p : Part) (last : ℕ) (row : List ℕ) → is_open opened p ≡ true → IsRow (open_cap c rated spare qs p) last row → IsRow (cap_of c rated opened spare qs p) last row
+row_of_open c rated opened spare qs p last row is h = record { size = h.size; each = λ r few. h.each r few ∙ rw is refl }
 
-pub row_of_own : (c : Topology) (rated opened : List Bool) (qs : List Request) (p : Part) (last : ℕ) (row : List ℕ) → is_open opened p ≡ false → IsRow (own_cap c rated qs p) last row → IsRow (cap_of c rated opened qs p) last row
-row_of_own c rated opened qs p last row is h = record { size = h.size; each = λ r few. h.each r few ∙ rw is refl }
+pub row_of_own : (c : Topology) (rated opened : List Bool) (spare : List (Vec ℕ Global)) (qs : List Request) (p : Part) (last : ℕ) (row : List ℕ) → is_open opened p ≡ false → IsRow (own_cap c rated spare qs p) last row → IsRow (cap_of c rated opened spare qs p) last row
+row_of_own c rated opened spare qs p last row is h = record { size = h.size; each = λ r few. h.each r few ∙ rw is refl }
+
+-- with what more a device had room for
+pub room_row : (c : Topology) (spare : List (Vec ℕ Global)) (qs : List Request) (p : Part) (last : ℕ) (old new : List ℕ) → IsRow (load c qs p) last old → length new ≡ length old → ((round : ℕ) → round < length old → slice_index new round ≡ min MAX_IN_ROUND (slice_index old round + spare_in spare p.number round)) → IsRow (room c spare qs p) last new
+room_row c spare qs p last old new loads size added =
+    let many = loads.size in
+    record {
+      size = size ∙ loads.size;
+      each = λ r few. added r (omega arith) ∙ rw (loads.each r few) refl;
+    }
 
 -- of a part that is measured
-pub measured_row : (c : Topology) (rated : List Bool) (qs : List Request) (p : Part) (last usual : ℕ) (old waits new : List ℕ) → is_measured rated p ≡ true → usual ≡ openings c p → IsRow (load c qs p) last old → IsRow (waiting qs p.number) last waits → length new ≡ length old → ((round : ℕ) → round < length old → slice_index new round ≡ (if nat_lt 0 (slice_index waits round) then slice_index old round else max usual (slice_index old round))) → IsRow (own_cap c rated qs p) last new
+pub measured_row : (c : Topology) (rated : List Bool) (spare : List (Vec ℕ Global)) (qs : List Request) (p : Part) (last usual : ℕ) (old waits new : List ℕ) → is_measured rated p ≡ true → usual ≡ openings c p → IsRow (room c spare qs p) last old → IsRow (waiting qs p.number) last waits → length new ≡ length old → ((round : ℕ) → round < length old → slice_index new round ≡ (if nat_lt 0 (slice_index waits round) then slice_index old round else max usual (slice_index old round))) → IsRow (own_cap c rated spare qs p) last new
 unfolding own_cap
-measured_row c rated qs p last usual old waits new measured is loads waiting' size raised =
+measured_row c rated spare qs p last usual old waits new measured is loads waiting' size raised =
     let many = loads.size in
     record {
       size = size ∙ loads.size;
@@ -35,9 +45,9 @@ measured_row c rated qs p last usual old waits new measured is loads waiting' si
     }
 
 -- and of any other
-pub steady_row : (c : Topology) (rated : List Bool) (qs : List Request) (p : Part) (last usual : ℕ) (old new : List ℕ) → is_measured rated p ≡ false → usual ≡ openings c p → IsRow (load c qs p) last old → length new ≡ length old → ((round : ℕ) → round < length old → slice_index new round ≡ max usual (slice_index old round)) → IsRow (own_cap c rated qs p) last new
+pub steady_row : (c : Topology) (rated : List Bool) (spare : List (Vec ℕ Global)) (qs : List Request) (p : Part) (last usual : ℕ) (old new : List ℕ) → is_measured rated p ≡ false → usual ≡ openings c p → IsRow (load c qs p) last old → length new ≡ length old → ((round : ℕ) → round < length old → slice_index new round ≡ max usual (slice_index old round)) → IsRow (own_cap c rated spare qs p) last new
 unfolding own_cap
-steady_row c rated qs p last usual old new steady is loads size raised =
+steady_row c rated spare qs p last usual old new steady is loads size raised =
     let many = loads.size in
     record {
       size = size ∙ loads.size;
@@ -47,9 +57,9 @@ steady_row c rated qs p last usual old new steady is loads size raised =
 -- ---- of an adapter of unknown openings
 
 -- the devices on it have more openings than it
-pub full_row : (c : Topology) (rated : List Bool) (qs : List Request) (p : Part) (last : ℕ) (new : List ℕ) → nat_lt (openings c p) (sum_on c p.number (openings c)) ≡ true → new ≡ replicate (last + 1) MAX_IN_ROUND → IsRow (open_cap c rated qs p) last new
+pub full_row : (c : Topology) (rated : List Bool) (spare : List (Vec ℕ Global)) (qs : List Request) (p : Part) (last : ℕ) (new : List ℕ) → nat_lt (openings c p) (sum_on c p.number (openings c)) ≡ true → new ≡ replicate (last + 1) MAX_IN_ROUND → IsRow (open_cap c rated spare qs p) last new
 unfolding open_cap
-full_row c rated qs p last new more is = record {
+full_row c rated spare qs p last new more is = record {
   size = ap length is ∙ length-replicate (last + 1) MAX_IN_ROUND;
   each = λ r few. ap (λ row. slice_index row r) is ∙ get_or-replicate (last + 1) r MAX_IN_ROUND 0 (omega arith) ∙ rw more refl;
 }
@@ -58,13 +68,13 @@ least_max : (m x s : ℕ) → min m (max x (min m s)) ≡ min m (max x s)
 least_max m x s = omega arith
 
 -- they don't
-pub shared_row : (c : Topology) (rated : List Bool) (qs : List Request) (p : Part) (last usual : ℕ) (old devices new : List ℕ) → nat_lt (openings c p) (sum_on c p.number (openings c)) ≡ false → usual ≡ openings c p → IsRow (load c qs p) last old → IsRow (λ round. min MAX_IN_ROUND (sum_on c p.number (λ d. own_cap c rated qs d round))) last devices → length new ≡ length old → ((round : ℕ) → round < length old → slice_index new round ≡ min MAX_IN_ROUND (max (max usual (slice_index old round)) (slice_index devices round))) → IsRow (open_cap c rated qs p) last new
+pub shared_row : (c : Topology) (rated : List Bool) (spare : List (Vec ℕ Global)) (qs : List Request) (p : Part) (last usual : ℕ) (old devices new : List ℕ) → nat_lt (openings c p) (sum_on c p.number (openings c)) ≡ false → usual ≡ openings c p → IsRow (load c qs p) last old → IsRow (λ round. min MAX_IN_ROUND (sum_on c p.number (λ d. own_cap c rated spare qs d round))) last devices → length new ≡ length old → ((round : ℕ) → round < length old → slice_index new round ≡ min MAX_IN_ROUND (max (max usual (slice_index old round)) (slice_index devices round))) → IsRow (open_cap c rated spare qs p) last new
 unfolding open_cap
-shared_row c rated qs p last usual old devices new fewer is loads sums size raised =
+shared_row c rated spare qs p last usual old devices new fewer is loads sums size raised =
     let many = loads.size in
     record {
       size = size ∙ loads.size;
-      each = λ r few. raised r (omega arith) ∙ rw (sums.each r few, loads.each r few, is, fewer) (least_max MAX_IN_ROUND (max (openings c p) (load c qs p r)) (sum_on c p.number (λ d. own_cap c rated qs d r)));
+      each = λ r few. raised r (omega arith) ∙ rw (sums.each r few, loads.each r few, is, fewer) (least_max MAX_IN_ROUND (max (openings c p) (load c qs p r)) (sum_on c p.number (λ d. own_cap c rated spare qs d r)));
     }
 
 -- ---- sums over the devices on an adapter

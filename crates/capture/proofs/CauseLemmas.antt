@@ -1,9 +1,11 @@
 -- the requests of a capture keep the rules of recordings
-use Rattle.std.proofs.Common.{◌≡◌, ℕ, zero, suc, ◌+◌, ◌<◌, ◌≤◌, Bool, true, false, cond, List, [], ◌∷◌, length, take, get_or, max, min, nat_lt, refl, arith, Option, Some, None, inl, inr, ◌==◌, ◌&&◌, find, count_by, slice_get, All}
+use Rattle.std.proofs.Common.{◌≡◌, ℕ, zero, suc, ◌+◌, ◌<◌, ◌≤◌, Bool, true, false, cond, List, [], ◌∷◌, length, take, get_or, max, min, nat_lt, refl, arith, Option, Some, None, inl, inr, ◌==◌, ◌&&◌, find, count_by, slice_get, All, Vec, IfSome, nat_le}
+use Rattle.std.specs.Global.{Global}
 use Rattle.std.specs.List.{flat_map}
 use Rattle.std.specs.Option.{option_map_or}
 use Rattle.std.proofs.lemmas.Bool.{and_from, ltb-true, le-ltb, le-leb, lt-leb, eq-eqb}
 use Rattle.std.proofs.lemmas.Option.{slice_get_cases}
+use Rattle.std.proofs.lemmas.List.Folds.{list_any_at}
 use Rattle.std.proofs.lemmas.List.Sums.{sum_by-le-sum_by}
 use Rattle.cam_types.specs.Topology.{Topology, IsConfig, names_link}
 use Rattle.cam_types.specs.Questions.{names_device, device_adapter, adapter_link}
@@ -12,12 +14,12 @@ use Rattle.cam_types.specs.declared.device.Device.{Device}
 use Rattle.cam_types.specs.declared.limits.TheConstants.{MAX_PRIORITY, MAX_OPENINGS}
 use Rattle.cam_types.proofs.ConfigLemmas.{bus-there, adapters_on_links, small_devices, small_adapters, small_links}
 use Rattle.recording_file.specs.Caps.{openings, part_of, cap_in}
-use Rattle.recording_file.specs.Recorded.{takes_of, load, last_of, link_parts, is_full, window_cause, crowd_cause, plain_cause, request_cause}
+use Rattle.recording_file.specs.Recorded.{takes_of, load, last_of, is_done_right, link_parts, is_full, window_cause, crowd_cause, plain_cause, request_cause}
 use Rattle.recording_file.specs.declared.part.Part.{Part}
 use Rattle.recording_file.specs.declared.part.PartKind.{PartKind}
 use Rattle.recording_file.specs.declared.part.PartKind.TheVariants as kind
 use Rattle.recording_file.specs.declared.request.Request.{Request}
-use Rattle.capture.specs.Captured.{is_measured, is_open, own_cap, open_cap, sum_on, cap_of, part_caps}
+use Rattle.capture.specs.Captured.{is_measured, is_open, room, own_cap, open_cap, sum_on, cap_of, part_caps, is_completed, has_completions}
 use Rattle.capture.specs.Faults.{IsInRounds, starts_in}
 use Rattle.capture.specs.Loads.{is_pressed}
 use Rattle.capture.specs.Parts.{all_parts}
@@ -37,20 +39,27 @@ load_few c qs p r = sum_by-le-sum_by (λ (q : Request). one (takes_of c p q.devi
     part_le false true = omega arith
     part_le false false = omega arith
 
-own_capped : (c : Topology) (rated : List Bool) (qs : List Request) (p : Part) (r : ℕ) → load c qs p r ≤ own_cap c rated qs p r
+own_capped : (c : Topology) (rated : List Bool) (spare : List (Vec ℕ Global)) (qs : List Request) (p : Part) (r : ℕ) → starts_in qs r ≤ MAX_IN_ROUND → load c qs p r ≤ own_cap c rated spare qs p r
 unfolding own_cap
-own_capped c rated qs p r = elim (is_measured rated p && is_pressed qs p.number r) as (λ b. load c qs p r ≤ cond b (load c qs p r) (max (openings c p) (load c qs p r))) [ true ↦ omega arith | false ↦ omega arith ]
-
-open_capped : (c : Topology) (rated : List Bool) (qs : List Request) (p : Part) (r : ℕ) → starts_in qs r ≤ MAX_IN_ROUND → load c qs p r ≤ open_cap c rated qs p r
-unfolding open_cap
-open_capped c rated qs p r few =
+own_capped c rated spare qs p r few =
     let load' = load_few c qs p r in
-    let sums : ℕ = sum_on c p.number (λ d. own_cap c rated qs d r) in
+    let own : ℕ = room c spare qs p r in
+    let within : load c qs p r ≤ own = omega arith in
+    elim (is_measured rated p) as (λ b. load c qs p r ≤ cond b (cond (is_pressed qs p.number r) own (max (openings c p) own)) (max (openings c p) (load c qs p r))) [
+      | true ↦ elim (is_pressed qs p.number r) as (λ b. load c qs p r ≤ cond b own (max (openings c p) own)) [ true ↦ within | false ↦ omega arith ]
+      | false ↦ omega arith
+    ]
+
+open_capped : (c : Topology) (rated : List Bool) (spare : List (Vec ℕ Global)) (qs : List Request) (p : Part) (r : ℕ) → starts_in qs r ≤ MAX_IN_ROUND → load c qs p r ≤ open_cap c rated spare qs p r
+unfolding open_cap
+open_capped c rated spare qs p r few =
+    let load' = load_few c qs p r in
+    let sums : ℕ = sum_on c p.number (λ d. own_cap c rated spare qs d r) in
     elim (nat_lt (openings c p) (sum_on c p.number (openings c))) as (λ b. load c qs p r ≤ cond b MAX_IN_ROUND (min MAX_IN_ROUND (max (max (openings c p) (load c qs p r)) sums))) [ true ↦ omega arith | false ↦ omega arith ]
 
-pub load_capped : (c : Topology) (rated opened : List Bool) (qs : List Request) (p : Part) (r : ℕ) → starts_in qs r ≤ MAX_IN_ROUND → load c qs p r ≤ cap_of c rated opened qs p r
-load_capped c rated opened qs p r few =
-    elim (is_open opened p) as (λ b. load c qs p r ≤ cond b (open_cap c rated qs p r) (own_cap c rated qs p r)) [ true ↦ open_capped c rated qs p r few | false ↦ own_capped c rated qs p r ]
+pub load_capped : (c : Topology) (rated opened : List Bool) (spare : List (Vec ℕ Global)) (qs : List Request) (p : Part) (r : ℕ) → starts_in qs r ≤ MAX_IN_ROUND → load c qs p r ≤ cap_of c rated opened spare qs p r
+load_capped c rated opened spare qs p r few =
+    elim (is_open opened p) as (λ b. load c qs p r ≤ cond b (open_cap c rated spare qs p r) (own_cap c rated spare qs p r)) [ true ↦ open_capped c rated spare qs p r few | false ↦ own_capped c rated spare qs p r few ]
 
 element : {X : Type 0} (xs : List X) (i : ℕ) → i < length xs → (x : X) × (slice_get xs i ≡ Some x)
 element xs i lt = elim (slice_get_cases xs i).1 [
@@ -70,23 +79,28 @@ openings_by c config kind.Device n = found_small (λ (d : Device). d.openings) c
 openings_by c config kind.Adapter n = found_small (λ (a : Adapter). a.openings) c.adapters n (small_adapters c config)
 openings_by c config kind.Link n = found_small (λ n. n) c.links n (small_links c config)
 
-own_few : (c : Topology) (rated : List Bool) (qs : List Request) (k : PartKind) (n r : ℕ) → IsConfig c → starts_in qs r ≤ MAX_IN_ROUND → own_cap c rated qs (part_of k n) r ≤ MAX_IN_ROUND
+own_few : (c : Topology) (rated : List Bool) (spare : List (Vec ℕ Global)) (qs : List Request) (k : PartKind) (n r : ℕ) → IsConfig c → starts_in qs r ≤ MAX_IN_ROUND → own_cap c rated spare qs (part_of k n) r ≤ MAX_IN_ROUND
 unfolding own_cap
-own_few c rated qs k n r config few =
+own_few c rated spare qs k n r config few =
     let p : Part = part_of k n in
     let open' = openings_by c config k n in
     let load' = load_few c qs p r in
-    elim (is_measured rated p && is_pressed qs p.number r) as (λ b. cond b (load c qs p r) (max (openings c p) (load c qs p r)) ≤ MAX_IN_ROUND) [ true ↦ omega arith | false ↦ omega arith ]
+    let own : ℕ = room c spare qs p r in
+    let most : own ≤ MAX_IN_ROUND = omega arith in
+    elim (is_measured rated p) as (λ b. cond b (cond (is_pressed qs p.number r) own (max (openings c p) own)) (max (openings c p) (load c qs p r)) ≤ MAX_IN_ROUND) [
+      | true ↦ elim (is_pressed qs p.number r) as (λ b. cond b own (max (openings c p) own) ≤ MAX_IN_ROUND) [ true ↦ most | false ↦ omega arith ]
+      | false ↦ omega arith
+    ]
 
-open_few : (c : Topology) (rated : List Bool) (qs : List Request) (p : Part) (r : ℕ) → open_cap c rated qs p r ≤ MAX_IN_ROUND
+open_few : (c : Topology) (rated : List Bool) (spare : List (Vec ℕ Global)) (qs : List Request) (p : Part) (r : ℕ) → open_cap c rated spare qs p r ≤ MAX_IN_ROUND
 unfolding open_cap
-open_few c rated qs p r =
-    let sums : ℕ = sum_on c p.number (λ d. own_cap c rated qs d r) in
+open_few c rated spare qs p r =
+    let sums : ℕ = sum_on c p.number (λ d. own_cap c rated spare qs d r) in
     elim (nat_lt (openings c p) (sum_on c p.number (openings c))) as (λ b. cond b MAX_IN_ROUND (min MAX_IN_ROUND (max (max (openings c p) (load c qs p r)) sums)) ≤ MAX_IN_ROUND) [ true ↦ omega arith | false ↦ omega arith ]
 
-pub cap_few : (c : Topology) (rated opened : List Bool) (qs : List Request) (k : PartKind) (n r : ℕ) → IsConfig c → starts_in qs r ≤ MAX_IN_ROUND → cap_of c rated opened qs (part_of k n) r ≤ MAX_IN_ROUND
-cap_few c rated opened qs k n r config few =
-    elim (is_open opened (part_of k n)) as (λ b. cond b (open_cap c rated qs (part_of k n) r) (own_cap c rated qs (part_of k n) r) ≤ MAX_IN_ROUND) [ true ↦ open_few c rated qs (part_of k n) r | false ↦ own_few c rated qs k n r config few ]
+pub cap_few : (c : Topology) (rated opened : List Bool) (spare : List (Vec ℕ Global)) (qs : List Request) (k : PartKind) (n r : ℕ) → IsConfig c → starts_in qs r ≤ MAX_IN_ROUND → cap_of c rated opened spare qs (part_of k n) r ≤ MAX_IN_ROUND
+cap_few c rated opened spare qs k n r config few =
+    elim (is_open opened (part_of k n)) as (λ b. cond b (open_cap c rated spare qs (part_of k n) r) (own_cap c rated spare qs (part_of k n) r) ≤ MAX_IN_ROUND) [ true ↦ open_few c rated spare qs (part_of k n) r | false ↦ own_few c rated spare qs k n r config few ]
 
 -- ---- no cause speaks against a request
 
@@ -112,36 +126,36 @@ no_plain_cause rounds c q is there =
     rw (there, listed, first, order, few, early, late) refl
 
 -- a part that is there and takes a request has room for it beside the requests before it
-has_room : (c : Topology) (rated opened : List Bool) (qs : List Request) (rounds n : ℕ) (d : Request) (k : PartKind) (m : ℕ) → n < length qs → IsInRounds rounds (get_or qs n d) → IsThere c (part_of k m) → takes_of c (part_of k m) (get_or qs n d).device ≡ true → starts_in qs (get_or qs n d).sent ≤ MAX_IN_ROUND
-    → is_full c (flat_map (part_caps c rated opened qs rounds) (all_parts c)) (take n qs) (get_or qs n d).sent (part_of k m) ≡ false
-has_room c rated opened qs rounds n d k m lt is there takes few =
+has_room : (c : Topology) (rated opened : List Bool) (spare : List (Vec ℕ Global)) (qs : List Request) (rounds n : ℕ) (d : Request) (k : PartKind) (m : ℕ) → n < length qs → IsInRounds rounds (get_or qs n d) → IsThere c (part_of k m) → takes_of c (part_of k m) (get_or qs n d).device ≡ true → starts_in qs (get_or qs n d).sent ≤ MAX_IN_ROUND
+    → is_full c (flat_map (part_caps c rated opened spare qs rounds) (all_parts c)) (take n qs) (get_or qs n d).sent (part_of k m) ≡ false
+has_room c rated opened spare qs rounds n d k m lt is there takes few =
     let q : Request = get_or qs n d in
     let p : Part = part_of k m in
     let first = is.first in
     let arrived = is.arrived in
     let within = is.within in
     let last = is.last in
-    let capped = cap_in_all c (cap_of c rated opened qs) rounds k m q.sent there (omega arith) (omega arith) in
+    let capped = cap_in_all c (cap_of c rated opened spare qs) rounds k m q.sent there (omega arith) (omega arith) in
     let front = count_front (λ (a : Request). takes_of c p a.device && (a.sent == q.sent)) qs n d lt (and_from _ _ takes (eq-eqb q.sent q.sent refl)) in
-    let most = load_capped c rated opened qs p q.sent few in
-    lt-leb (cap_in c (flat_map (part_caps c rated opened qs rounds) (all_parts c)) p q.sent) (load c (take n qs) p q.sent) (omega arith)
+    let most = load_capped c rated opened spare qs p q.sent few in
+    lt-leb (cap_in c (flat_map (part_caps c rated opened spare qs rounds) (all_parts c)) p q.sent) (load c (take n qs) p q.sent) (omega arith)
 
 -- where neither a device, nor its adapter, nor that one's link is full, none is
 none_full : (t : Part → Bool) (device adapter : Part) (link : Option ℕ) → t device ≡ false → t adapter ≡ false → ((l : ℕ) → link ≡ Some l → t (part_of kind.Link l) ≡ false) → find t (device ∷ adapter ∷ link_parts link) ≡ None
 none_full t device adapter None d a l = rw (d, a) refl
 none_full t device adapter (Some k) d a l = let none = l k refl in rw (d, a, none) refl
 
-no_crowd_cause : (c : Topology) (rated opened : List Bool) (qs : List Request) (rounds n : ℕ) (d : Request) → IsConfig c → n < length qs → IsInRounds rounds (get_or qs n d) → (get_or qs n d).device < length c.devices → starts_in qs (get_or qs n d).sent ≤ MAX_IN_ROUND → crowd_cause c (flat_map (part_caps c rated opened qs rounds) (all_parts c)) (take n qs) (get_or qs n d) ≡ None
+no_crowd_cause : (c : Topology) (rated opened : List Bool) (spare : List (Vec ℕ Global)) (qs : List Request) (rounds n : ℕ) (d : Request) → IsConfig c → n < length qs → IsInRounds rounds (get_or qs n d) → (get_or qs n d).device < length c.devices → starts_in qs (get_or qs n d).sent ≤ MAX_IN_ROUND → crowd_cause c (flat_map (part_caps c rated opened spare qs rounds) (all_parts c)) (take n qs) (get_or qs n d) ≡ None
 unfolding crowd_cause
-no_crowd_cause c rated opened qs rounds n d config lt is there few =
+no_crowd_cause c rated opened spare qs rounds n d config lt is there few =
     let q : Request = get_or qs n d in
     let a : ℕ = device_adapter c q.device in
     let device = element c.devices q.device there in
     let on_adapter = bus-there c q.device config there in
     let adapter = element c.adapters a on_adapter in
     let bus : a ≡ device.0.bus = rw device.1 refl in
-    let room = has_room c rated opened qs rounds n d in
-    let none = none_full (is_full c (flat_map (part_caps c rated opened qs rounds) (all_parts c)) (take n qs) q.sent) (part_of kind.Device q.device) (part_of kind.Adapter a) (adapter_link c a)
+    let room = has_room c rated opened spare qs rounds n d in
+    let none = none_full (is_full c (flat_map (part_caps c rated opened spare qs rounds) (all_parts c)) (take n qs) q.sent) (part_of kind.Device q.device) (part_of kind.Adapter a) (adapter_link c a)
     (room kind.Device q.device lt is there (eq-eqb q.device q.device refl) few)
     (room kind.Adapter a lt is on_adapter (rw device.1 (eq-eqb device.0.bus device.0.bus refl)) few)
     (λ l on.
@@ -152,9 +166,9 @@ no_crowd_cause c rated opened qs rounds n d config lt is there few =
     room kind.Link l lt is is_link (rw (device.1, under) (eq-eqb l l refl)) few) in
     rw none refl
 
-pub no_cause : (c : Topology) (rated opened : List Bool) (qs : List Request) (rounds n : ℕ) (d : Request) → IsConfig c → n < length qs → All (IsInRounds rounds) qs → ((round : ℕ) → 1 ≤ round → round ≤ rounds → starts_in qs round ≤ MAX_IN_ROUND) → names_device c (get_or qs n d).device ≡ true → request_cause rounds c (flat_map (part_caps c rated opened qs rounds) (all_parts c)) (take n qs, get_or qs n d) ≡ None
+pub no_cause : (c : Topology) (rated opened : List Bool) (spare : List (Vec ℕ Global)) (qs : List Request) (rounds n : ℕ) (d : Request) → IsConfig c → n < length qs → All (IsInRounds rounds) qs → ((round : ℕ) → 1 ≤ round → round ≤ rounds → starts_in qs round ≤ MAX_IN_ROUND) → names_device c (get_or qs n d).device ≡ true → request_cause rounds c (flat_map (part_caps c rated opened spare qs rounds) (all_parts c)) (take n qs, get_or qs n d) ≡ None
 unfolding request_cause
-no_cause c rated opened qs rounds n d config lt h crowds there =
+no_cause c rated opened spare qs rounds n d config lt h crowds there =
     let is = h n d lt in
     let first = is.first in
     let arrived = is.arrived in
@@ -162,5 +176,15 @@ no_cause c rated opened qs rounds n d config lt h crowds there =
     let last = is.last in
     let few = crowds (get_or qs n d).sent (omega arith) (omega arith) in
     let plain = no_plain_cause rounds c (get_or qs n d) is there in
-    let crowd = no_crowd_cause c rated opened qs rounds n d config lt is (ltb-true _ _ there) few in
+    let crowd = no_crowd_cause c rated opened spare qs rounds n d config lt is (ltb-true _ _ there) few in
     rw (plain, crowd) refl
+
+-- ---- completions are right
+
+pub done_right : (qs : List Request) (rounds n : ℕ) (d : Request) → n < length qs → IsInRounds rounds (get_or qs n d) → is_done_right (has_completions qs) (get_or qs n d) ≡ true
+done_right qs rounds n d lt is =
+    let q : Request = get_or qs n d in
+    elim q.done as (λ o. q.done ≡ o → IfSome o (λ m. q.sent ≤ m) → option_map_or (λ m. has_completions qs && nat_le q.sent m) o true ≡ true) [
+      | None ↦ λ e later. refl
+      | Some m ↦ λ e later. and_from _ _ (list_any_at is_completed qs n d lt (rw e refl)) (le-leb q.sent m later)
+    ] refl is.done

@@ -15,7 +15,7 @@ use Rattle.recording_file.specs.declared.request.Request.{Request}
 use Rattle.recording_file.proofs.ListLemmas.{none_passes, each_of_range}
 use Rattle.capture.specs.Timed.{TimedRequest}
 use Rattle.capture.specs.Rounds.{Span}
-use Rattle.capture.specs.Faults.{CaptureFault, is_early, request_fault, starts_in, is_crowded, crowd_fault, device_fault, name_fault, BadPriority, StartedEarly, TooManyInRound, NoDevice, BadName}
+use Rattle.capture.specs.Faults.{CaptureFault, is_early, is_ended_early, request_fault, starts_in, is_crowded, crowd_fault, device_fault, name_fault, BadPriority, StartedEarly, EndedEarly, TooManyInRound, NoDevice, BadName}
 use Rattle.capture.specs.declared.capture_fault.TheConstants.{MAX_IN_ROUND}
 use Rattle.capture.proofs.FoundLemmas.{none_so_far, found_so_far, found_in_range, none_in_range, answer_here, parts_at}
 
@@ -36,9 +36,15 @@ early_fault qs n d lt none low early =
     let many = length-take-le n qs (omega arith) in
     fault_here qs n d (StartedEarly n) lt none (rw (le-ltb MAX_PRIORITY (get_or qs n d).priority low, early, many) refl)
 
-pub no_fault_more : (qs : List TimedRequest) (n : ℕ) (d : TimedRequest) → n < length qs → first_answer request_fault (prefixed (take n qs)) ≡ None → (get_or qs n d).priority ≤ MAX_PRIORITY → is_early (get_or qs n d) ≡ false → first_answer request_fault (prefixed (take (n + 1) qs)) ≡ None
+pub ended_fault : (qs : List TimedRequest) (n : ℕ) (d : TimedRequest) → n < length qs → first_answer request_fault (prefixed (take n qs)) ≡ None → (get_or qs n d).priority ≤ MAX_PRIORITY → is_early (get_or qs n d) ≡ false → is_ended_early (get_or qs n d) ≡ true → first_answer request_fault (prefixed qs) ≡ Some (EndedEarly n)
 unfolding request_fault
-no_fault_more qs n d lt none low early = ap (λ xs. first_answer request_fault (prefixed xs)) (take_more qs n d lt) ∙ first_answer-push request_fault (take n qs) (get_or qs n d) none (rw (le-ltb MAX_PRIORITY (get_or qs n d).priority low, early) refl)
+ended_fault qs n d lt none low early ended =
+    let many = length-take-le n qs (omega arith) in
+    fault_here qs n d (EndedEarly n) lt none (rw (le-ltb MAX_PRIORITY (get_or qs n d).priority low, early, ended, many) refl)
+
+pub no_fault_more : (qs : List TimedRequest) (n : ℕ) (d : TimedRequest) → n < length qs → first_answer request_fault (prefixed (take n qs)) ≡ None → (get_or qs n d).priority ≤ MAX_PRIORITY → is_early (get_or qs n d) ≡ false → is_ended_early (get_or qs n d) ≡ false → first_answer request_fault (prefixed (take (n + 1) qs)) ≡ None
+unfolding request_fault
+no_fault_more qs n d lt none low early ended = ap (λ xs. first_answer request_fault (prefixed xs)) (take_more qs n d lt) ∙ first_answer-push request_fault (take n qs) (get_or qs n d) none (rw (le-ltb MAX_PRIORITY (get_or qs n d).priority low, early, ended) refl)
 
 -- ---- devices
 

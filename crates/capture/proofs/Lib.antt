@@ -17,3 +17,4 @@ pub mod SpanBoundLemmas
 pub mod SpanLemmas
 pub mod UsualLemmas
 pub mod WaitLemmas
+pub mod RoomLemmas

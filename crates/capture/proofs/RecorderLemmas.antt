@@ -1,5 +1,6 @@
 -- recordings in the making
-use Rattle.std.proofs.Common.{◌≡◌, ℕ, ◌+◌, ◌<◌, ◌≤◌, Bool, List, [], ◌∷◌, ◌++◌, length, take, get_or, sym, ap, ◌∙◌, refl, Some}
+use Rattle.std.proofs.Common.{◌≡◌, ℕ, ◌+◌, ◌<◌, ◌≤◌, Bool, List, [], ◌∷◌, ◌++◌, length, take, get_or, sym, ap, ◌∙◌, refl, Some, Vec}
+use Rattle.std.specs.Global.{Global}
 use Rattle.std.specs.List.{flat_map}
 use Rattle.std.proofs.lemmas.List.{take_more, take_all}
 use Rattle.recording_file.specs.Names.{NameValue}
@@ -8,7 +9,7 @@ use Rattle.recording_file.specs.declared.cap.Cap.{Cap}
 use Rattle.recording_file.specs.declared.part.Part.{Part}
 use Rattle.recording_file.specs.declared.request.Request.{Request}
 use Rattle.cam_types.specs.Topology.{Topology}
-use Rattle.capture.specs.Captured.{part_caps, recorded_of}
+use Rattle.capture.specs.Captured.{has_completions, part_caps, recorded_of}
 use Rattle.capture.specs.Parts.{all_parts}
 use Rattle.capture.specs.Rounds.{Rounded}
 use Rattle.capture.proofs.CapLemmas.{caps_more}
@@ -41,7 +42,7 @@ pub caps_all : (first now : Recorded) (f : Part → List Cap) (ps : List Part) (
 caps_all first now f ps n le so_far = so_far ∙ ap (λ qs. record first { caps = flat_map f qs }) (take_all n ps le)
 
 -- the recording that is made of all this
-pub recorded_made : (c copy : Topology) (rated opened : List Bool) (names : List NameValue) (r : Rounded) (first named capped whole last : Recorded) → copy ≡ c → first ≡ record { unit = Some r.unit; rounds = r.rounds; config = copy; names = []; caps = []; requests = [] } → named ≡ record first { names = names } → capped ≡ record named { caps = flat_map (part_caps c rated opened r.requests named.rounds) (all_parts c) } → whole ≡ record capped { requests = r.requests } → last ≡ whole → last ≡ recorded_of c rated opened names r
+pub recorded_made : (c copy : Topology) (rated opened : List Bool) (spare : List (Vec ℕ Global)) (names : List NameValue) (r : Rounded) (first named capped whole last : Recorded) → copy ≡ c → first ≡ record { unit = Some r.unit; rounds = r.rounds; config = copy; names = []; caps = []; requests = []; completions = has_completions r.requests } → named ≡ record first { names = names } → capped ≡ record named { caps = flat_map (part_caps c rated opened spare r.requests named.rounds) (all_parts c) } → whole ≡ record capped { requests = r.requests } → last ≡ whole → last ≡ recorded_of c rated opened spare names r
 unfolding recorded_of
-recorded_made c copy rated opened names r first named capped whole last same is by_names by_caps by_requests end =
+recorded_made c copy rated opened spare names r first named capped whole last same is by_names by_caps by_requests end =
     end ∙ by_requests ∙ rw (by_caps, by_names, is, same) refl

@@ -12,5 +12,5 @@ pub arrived_within : (last : ℕ) (qs : List Request) → All (IsInRounds last) 
 arrived_within last qs h = λ k d lt. let is = h k d lt in let a = is.within in let b = is.last in let e = is.arrived in omega arith
 
 -- no more are kept than there are
-pub few_kept : {X : Type 0} (s : X → Bool) (f : X → ℕ) (qs : List X) → length (map f (filter s qs)) ≤ length qs
+pub few_kept : {X Y : Type 0} (s : X → Bool) (f : X → Y) (qs : List X) → length (map f (filter s qs)) ≤ length qs
 few_kept s f qs = omega (arith, length-map (filter s qs) f, length-filter s qs, count_by-le-length s qs)

@@ -1,5 +1,5 @@
 -- times as rounds
-use Rattle.std.proofs.Common.{◌≡◌, ℕ, ◌+◌, ◌-◌, ◌*◌, ◌/◌, ◌<◌, ◌≤◌, ◌==◌, true, false, cond, max, List, [], ◌∷◌, ◌++◌, length, map, filter, get_or, refl, arith, All, Option, Some, None, nat_lt}
+use Rattle.std.proofs.Common.{◌≡◌, ℕ, ◌+◌, ◌-◌, ◌*◌, ◌/◌, ◌<◌, ◌≤◌, ◌==◌, true, false, cond, max, List, [], ◌∷◌, ◌++◌, length, map, filter, get_or, refl, arith, All, Option, Some, None, nat_lt, nat_le, Bool, ◌&&◌, IfSome, option_and_then}
 use Rattle.std.specs.List.{range_with_len}
 use Rattle.std.specs.Option.{option_map_or}
 use Rattle.std.proofs.Math.Nat.{div-add-mod'}
@@ -12,8 +12,8 @@ use Rattle.cam_types.proofs.ListLemmas.{or_left, or_right}
 use Rattle.recording_file.specs.declared.limits.TheConstants.{MAX_RECORDED_ROUNDS, MAX_REQUESTS}
 use Rattle.recording_file.proofs.ListLemmas.{all_of_flat, all_of_filter}
 use Rattle.capture.specs.Timed.{TimedRequest, arrival_of, most_of, is_started, start_of, arriving, by_arrival, started}
-use Rattle.capture.specs.Rounds.{round_at, first_arrival, rounds_of, unless_end, last_round, request_in}
-use Rattle.capture.specs.Faults.{BadPriority, StartedEarly, NothingStarted, TooManyRequests, TooManyRounds, is_early, request_fault, size_fault, IsInRounds}
+use Rattle.capture.specs.Rounds.{round_at, first_arrival, rounds_of, unless_end, last_round, done_round, request_in}
+use Rattle.capture.specs.Faults.{BadPriority, StartedEarly, EndedEarly, NothingStarted, TooManyRequests, TooManyRounds, is_early, is_ended_early, request_fault, size_fault, IsInRounds}
 
 -- each number is at most the greatest
 pub each_most : {X : Type 0} (f : X → ℕ) (xs : List X) → All (λ x. f x ≤ most_of f xs) xs
@@ -28,17 +28,26 @@ each_most f xs = below f xs (most_of f xs) (omega arith)
 pub record IsTimely (q : TimedRequest) : Type 0 where
   pub priority : q.priority ≤ MAX_PRIORITY
   pub order : is_started q ≡ true → q.arrival ≤ start_of q
+  pub ended : is_started q ≡ true → IfSome q.completed (λ t. start_of q ≤ t)
+
+ended_after : (started : Bool) (start : ℕ) (completed : Option ℕ) → started ≡ true → (started && option_map_or (λ t. nat_lt t start) completed false) ≡ false → IfSome completed (λ t. start ≤ t)
+ended_after started start None begun late = _
+ended_after started start (Some t) begun late = ltb-false t start (rw begun at late)
 
 no_fault : (before : List TimedRequest) (q : TimedRequest) → request_fault (before, q) ≡ None → IsTimely q
 unfolding request_fault
-no_fault before q = elim (nat_lt MAX_PRIORITY q.priority) as (λ b. nat_lt MAX_PRIORITY q.priority ≡ b → cond b (Some (BadPriority (length before))) (cond (is_early q) (Some (StartedEarly (length before))) None) ≡ None → IsTimely q) [
+no_fault before q = elim (nat_lt MAX_PRIORITY q.priority) as (λ b. nat_lt MAX_PRIORITY q.priority ≡ b → cond b (Some (BadPriority (length before))) (cond (is_early q) (Some (StartedEarly (length before))) (cond (is_ended_early q) (Some (EndedEarly (length before))) None)) ≡ None → IsTimely q) [
   | true ↦ λ is e. absurd cc
-  | false ↦ λ low. elim (is_early q) as (λ b. is_early q ≡ b → cond b (Some (StartedEarly (length before))) None ≡ None → IsTimely q) [
+  | false ↦ λ low. elim (is_early q) as (λ b. is_early q ≡ b → cond b (Some (StartedEarly (length before))) (cond (is_ended_early q) (Some (EndedEarly (length before))) None) ≡ None → IsTimely q) [
     | true ↦ λ is e. absurd cc
-    | false ↦ λ late e. record {
-      priority = ltb-false MAX_PRIORITY q.priority low;
-      order = λ begun. ltb-false (start_of q) q.arrival (rw begun at late);
-    }
+    | false ↦ λ late. elim (is_ended_early q) as (λ b. is_ended_early q ≡ b → cond b (Some (EndedEarly (length before))) None ≡ None → IsTimely q) [
+      | true ↦ λ is e. absurd cc
+      | false ↦ λ whole e. record {
+        priority = ltb-false MAX_PRIORITY q.priority low;
+        order = λ begun. ltb-false (start_of q) q.arrival (rw begun at late);
+        ended = λ begun. ended_after (is_started q) (start_of q) q.completed begun whole;
+      }
+    ] refl
   ] refl
 ] refl
 
@@ -50,12 +59,13 @@ timely_after before (q ∷ qs) none = All-cons IsTimely q qs (no_fault before q 
 pub record IsFit (q : TimedRequest) : Type 0 where
   pub priority : q.priority ≤ MAX_PRIORITY
   pub order : q.arrival ≤ start_of q
+  pub ended : IfSome q.completed (λ t. start_of q ≤ t)
 
 pub started_fit : (qs : List TimedRequest) → first_answer request_fault (prefixed qs) ≡ None → All IsFit (started qs)
 unfolding by_arrival
 started_fit qs none =
     let kept : List TimedRequest = filter is_started qs in
-    let fit : All IsFit kept = all_of_filter is_started IsFit qs (λ k d lt begun. let is = timely_after [] qs none k d lt in record { priority = is.priority; order = is.order begun }) in
+    let fit : All IsFit kept = all_of_filter is_started IsFit qs (λ k d lt begun. let is = timely_after [] qs none k d lt in record { priority = is.priority; order = is.order begun; ended = is.ended begun }) in
     all_of_flat IsFit (arriving kept) (range_with_len 0 (most_of arrival_of kept + 1)) (λ k d lt. All-filter (λ (q : TimedRequest). q.arrival == get_or (range_with_len 0 (most_of arrival_of kept + 1)) k d) IsFit kept fit)
 
 -- ---- rounds of times
@@ -94,6 +104,13 @@ last_within : (span begin rounds sent : ℕ) (retried : Option ℕ) → sent ≤
 last_within span begin rounds sent None le = (le, omega arith)
 last_within span begin rounds sent (Some t) le = last_between rounds sent (round_at span begin t - 1) le
 
+done_after : (span begin start : ℕ) (completed : Option ℕ) → 1 ≤ span → IfSome completed (λ t. start ≤ t) → IfSome (option_and_then (done_round span begin) completed) (λ n. round_at span begin start ≤ n)
+unfolding done_round
+done_after span begin start None some ended = _
+done_after span begin start (Some t) some ended =
+    let later = round_later span begin start t some ended in
+    elim (nat_le (round_at span begin t) 4294967295) as (λ b. IfSome (cond b (Some (round_at span begin t)) None) (λ n. round_at span begin start ≤ n)) [ true ↦ later | false ↦ _ ]
+
 in_round : (span begin rounds : ℕ) (q : TimedRequest) → 1 ≤ span → IsFit q → round_at span begin (start_of q) ≤ rounds → IsInRounds rounds (request_in span begin rounds q)
 unfolding request_in
 in_round span begin rounds q some fit le =
@@ -104,6 +121,7 @@ in_round span begin rounds q some fit le =
       arrived = round_later span begin q.arrival (start_of q) some fit.order;
       within = last.0;
       last = last.1;
+      done = done_after span begin (start_of q) q.completed some fit.ended;
     }
 
 pub all_in_rounds : (span : ℕ) (qs : List TimedRequest) → 1 ≤ span → All IsFit qs → All (IsInRounds (rounds_of span qs)) (map (request_in span (first_arrival qs) (rounds_of span qs)) qs)

@@ -1,5 +1,5 @@
 -- spans near a number of nanoseconds
-use Rattle.std.proofs.Common.{◌≡◌, ◌≢◌, ℕ, ◌+◌, ◌*◌, ◌/◌, ◌<◌, ◌≤◌, max, min, nat_le, true, false, cond, Option, Some, None, unwrap_or, refl, arith, inl, inr}
+use Rattle.std.proofs.Common.{◌≡◌, ◌≢◌, ℕ, ◌*◌, ◌/◌, ◌<◌, ◌≤◌, max, min, nat_le, true, false, cond, Option, Some, None, unwrap_or, refl, arith, inl, inr}
 use Rattle.std.specs.Option.{IfSome, IfNone}
 use Rattle.std.proofs.lemmas.Bool.{leb-true, cases_lt}
 use Rattle.recording_file.specs.declared.span.TimeUnit.{TimeUnit}

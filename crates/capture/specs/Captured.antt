@@ -1,6 +1,7 @@
 -- the recording of a capture
-use Rattle.std.specs.Prelude.{◌≡◌, ℕ, ◌<◌, ◌≤◌, ◌==◌, max, min, nat_lt, Bool, true, false, not, ◌&&◌, if◌then◌else◌, List, length, map, filter, slice_get, Some}
-use Rattle.std.specs.List.{flat_map, range_with_len, sum_by}
+use Rattle.std.specs.Prelude.{◌≡◌, ℕ, ◌<◌, ◌≤◌, ◌==◌, max, min, nat_lt, Bool, true, false, not, if◌then◌else◌, List, length, map, filter, slice_get, slice_index, Some, Vec, ◌+◌, is_some}
+use Rattle.std.specs.Global.{Global}
+use Rattle.std.specs.List.{flat_map, list_any, range_with_len, sum_by}
 use Rattle.std.specs.Option.{option_map_or}
 use Rattle.cam_types.specs.Topology.{Topology}
 use Rattle.cam_types.specs.declared.device.Device.{Device}
@@ -43,11 +44,19 @@ is_open opened p = by p.kind
     by kind.Adapter = is_flagged opened p.number
     by kind.Link = false
 
--- how many a part takes in a round by itself: a device that is measured and pressed takes what it took; and anything else takes
--- its openings, or what it took if that is more
-unfoldable pub own_cap : Topology → List Bool → List Request → Part → ℕ → ℕ
-own_cap c rated qs p round =
-    if is_measured rated p && is_pressed qs p.number round then load c qs p round
+-- how many starts more a device had room for in a round, by its row; a device without one had none
+abbrev pub spare_in : List (Vec ℕ Global) → ℕ → ℕ → ℕ
+spare_in spare device round = option_map_or (λ (row : Vec ℕ Global). slice_index row.items round) (slice_get spare device) 0
+
+-- what a device started in a round, and what more it had room for, as far as a cap can say it
+abbrev pub room : Topology → List (Vec ℕ Global) → List Request → Part → ℕ → ℕ
+room c spare qs p round = min MAX_IN_ROUND (load c qs p round + spare_in spare p.number round)
+
+-- how many a part takes in a round by itself: a device that is measured takes what it had room for, and in a round in which it
+-- isn't pressed its openings if these are more; anything else takes its openings, or what it took if that is more
+unfoldable pub own_cap : Topology → List Bool → List (Vec ℕ Global) → List Request → Part → ℕ → ℕ
+own_cap c rated spare qs p round =
+    if is_measured rated p then (if is_pressed qs p.number round then room c spare qs p round else max (openings c p) (room c spare qs p round))
     else max (openings c p) (load c qs p round)
 
 -- the devices on an adapter
@@ -60,14 +69,14 @@ sum_on c adapter number = sum_by (λ n. number (part_of kind.Device n)) (devices
 
 -- how many an adapter takes of unknown openings: what its devices take together, but no fewer than its openings and what it
 -- took. If the devices' openings are more than its own, it takes the most that a cap says.
-unfoldable pub open_cap : Topology → List Bool → List Request → Part → ℕ → ℕ
-open_cap c rated qs p round =
+unfoldable pub open_cap : Topology → List Bool → List (Vec ℕ Global) → List Request → Part → ℕ → ℕ
+open_cap c rated spare qs p round =
     if nat_lt (openings c p) (sum_on c p.number (openings c)) then MAX_IN_ROUND
-    else min MAX_IN_ROUND (max (max (openings c p) (load c qs p round)) (sum_on c p.number (λ d. own_cap c rated qs d round)))
+    else min MAX_IN_ROUND (max (max (openings c p) (load c qs p round)) (sum_on c p.number (λ d. own_cap c rated spare qs d round)))
 
 -- how many a part takes in a round
-abbrev pub cap_of : Topology → List Bool → List Bool → List Request → Part → ℕ → ℕ
-cap_of c rated opened qs p round = if is_open opened p then open_cap c rated qs p round else own_cap c rated qs p round
+abbrev pub cap_of : Topology → List Bool → List Bool → List (Vec ℕ Global) → List Request → Part → ℕ → ℕ
+cap_of c rated opened spare qs p round = if is_open opened p then open_cap c rated spare qs p round else own_cap c rated spare qs p round
 
 -- the cap of a part in the run of rounds that begins in this one, by its number in each round
 unfoldable pub run_cap : Part → (ℕ → ℕ) → ℕ → ℕ → Cap
@@ -83,23 +92,31 @@ unfoldable pub run_caps : Part → (ℕ → ℕ) → ℕ → ℕ → List Cap
 run_caps p number usual rounds = map (run_cap p number rounds) (run_starts number usual rounds)
 
 -- the caps of a part: one for each longest run of rounds in which it takes one number of requests that isn't its openings
-abbrev pub part_caps : Topology → List Bool → List Bool → List Request → ℕ → Part → List Cap
-part_caps c rated opened qs rounds p = run_caps p (cap_of c rated opened qs p) (openings c p) rounds
+abbrev pub part_caps : Topology → List Bool → List Bool → List (Vec ℕ Global) → List Request → ℕ → Part → List Cap
+part_caps c rated opened spare qs rounds p = run_caps p (cap_of c rated opened spare qs p) (openings c p) rounds
 
--- the recording of a capture
-unfoldable pub recorded_of : Topology → List Bool → List Bool → List NameValue → Rounded → Recorded
-recorded_of c rated opened names r = record {
+-- a request's completion is known
+abbrev pub is_completed : Request → Bool
+is_completed q = is_some q.done
+
+abbrev pub has_completions : List Request → Bool
+has_completions qs = list_any is_completed qs
+
+-- the recording of a capture: with completions, if one is known
+unfoldable pub recorded_of : Topology → List Bool → List Bool → List (Vec ℕ Global) → List NameValue → Rounded → Recorded
+recorded_of c rated opened spare names r = record {
   unit = Some r.unit;
   rounds = r.rounds;
   config = c;
+  completions = has_completions r.requests;
   names = names;
-  caps = flat_map (part_caps c rated opened r.requests r.rounds) (all_parts c);
+  caps = flat_map (part_caps c rated opened spare r.requests r.rounds) (all_parts c);
   requests = r.requests;
 }
 
 -- the recording of requests in time
-abbrev pub captured : Span → Topology → List Bool → List Bool → List NameValue → List TimedRequest → Recorded
-captured unit c rated opened names qs = recorded_of c rated opened names (in_rounds unit qs)
+abbrev pub captured : Span → Topology → List Bool → List Bool → List (Vec ℕ Global) → List NameValue → List TimedRequest → Recorded
+captured unit c rated opened spare names qs = recorded_of c rated opened spare names (in_rounds unit qs)
 
 -- the openings of an adapter that are unknown: those of its devices together, but no more than there may be
 abbrev pub shared_openings : List Device → ℕ → ℕ

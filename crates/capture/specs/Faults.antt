@@ -1,7 +1,7 @@
 -- why there is no recording of a capture
-use Rattle.std.specs.Prelude.{ℕ, ◌≤◌, ◌==◌, Bool, nat_lt, ◌&&◌, not, if◌then◌else◌, List, length, count_by, find, Option, Some, None, option_map, All}
+use Rattle.std.specs.Prelude.{ℕ, ◌≤◌, ◌==◌, Bool, nat_lt, ◌&&◌, not, if◌then◌else◌, List, length, count_by, find, Option, Some, None, option_map, All, IfSome, false}
 use Rattle.std.specs.List.{range_with_len}
-use Rattle.std.specs.Option.{option_or}
+use Rattle.std.specs.Option.{option_or, option_map_or}
 use Rattle.cam_types.specs.Lists.{prefixed, first_answer}
 use Rattle.cam_types.specs.Topology.{Topology}
 use Rattle.cam_types.specs.Questions.{names_device}
@@ -14,18 +14,23 @@ use Rattle.recording_file.specs.declared.request.Request.{Request}
 use Rattle.capture.specs.Timed.{TimedRequest, is_started, start_of}
 use Rattle.capture.specs.Rounds.{Rounded, Span, in_rounds}
 pub use Rattle.capture.specs.declared.capture_fault.CaptureFault.{CaptureFault}
-pub use Rattle.capture.specs.declared.capture_fault.CaptureFault.TheVariants.{BadPriority, StartedEarly, NothingStarted, TooManyRequests, TooManyRounds, TooManyInRound, NoDevice, BadName, OutOfMemory}
+pub use Rattle.capture.specs.declared.capture_fault.CaptureFault.TheVariants.{BadPriority, StartedEarly, EndedEarly, NothingStarted, TooManyRequests, TooManyRounds, TooManyInRound, NoDevice, BadName, OutOfMemory}
 use Rattle.capture.specs.declared.capture_fault.TheConstants.{MAX_IN_ROUND}
 
 -- it was started before it arrived
 abbrev pub is_early : TimedRequest → Bool
 is_early q = is_started q && nat_lt (start_of q) q.arrival
 
+-- it was completed before it was started
+abbrev pub is_ended_early : TimedRequest → Bool
+is_ended_early q = is_started q && option_map_or (λ t. nat_lt t (start_of q)) q.completed false
+
 -- why a request, by its number among the others, can't be one of a capture
 unfoldable pub request_fault : List TimedRequest × TimedRequest → Option CaptureFault
 request_fault m =
     if nat_lt MAX_PRIORITY m.1.priority then Some (BadPriority (length m.0))
     else if is_early m.1 then Some (StartedEarly (length m.0))
+    else if is_ended_early m.1 then Some (EndedEarly (length m.0))
     else None
 
 -- why that many started requests can't be recorded in that many rounds
@@ -61,6 +66,7 @@ pub record IsInRounds (rounds : ℕ) (q : Request) : Type 0 where
   pub arrived : q.arrival ≤ q.sent
   pub within : q.sent ≤ last_of rounds q
   pub last : last_of rounds q ≤ rounds
+  pub done : IfSome q.done (λ n. q.sent ≤ n)
 
 -- what a capture keeps
 pub record IsCapture (r : Rounded) : Type 0 where

@@ -5,5 +5,6 @@ pub mod Faults
 pub mod Loads
 pub mod Parts
 pub mod Captured
+pub mod Rooms
 pub mod Usual
 pub mod Lengths

@@ -49,6 +49,10 @@ unless_end rounds last = if nat_lt last rounds then Some last else None
 abbrev pub last_round : ℕ → ℕ → ℕ → ℕ → Option ℕ → Option ℕ
 last_round span begin rounds sent retried = option_and_then (λ t. unless_end rounds (max sent (round_at span begin t - 1))) retried
 
+-- the round of a completion, if a recording can say it
+unfoldable pub done_round : ℕ → ℕ → ℕ → Option ℕ
+done_round span begin t = if nat_le (round_at span begin t) 4294967295 then Some (round_at span begin t) else None
+
 -- a started request in rounds
 unfoldable pub request_in : ℕ → ℕ → ℕ → TimedRequest → Request
 request_in span begin rounds q = record {
@@ -58,6 +62,7 @@ request_in span begin rounds q = record {
   arrival = round_at span begin q.arrival;
   last = last_round span begin rounds (round_at span begin (start_of q)) q.retried;
   sent = round_at span begin (start_of q);
+  done = option_and_then (done_round span begin) q.completed;
 }
 
 -- what a capture has in rounds: how long one is, the last one, and the requests

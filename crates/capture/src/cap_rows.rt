@@ -2,7 +2,7 @@
 
 ghost use Rattle.std.specs.Prelude.{◌≡◌, ◌<◌, ◌≤◌, ◌^◌, ◌+◌, IfOk, All, ℕ, max, min, nat_lt, if◌then◌else◌, length, slice_index};
 ghost use Rattle.recording_file.specs.Caps.{openings};
-ghost use Rattle.capture.specs.Captured.{is_flagged, is_measured, is_open, own_cap, open_cap, cap_of, sum_on};
+ghost use Rattle.capture.specs.Captured.{is_flagged, is_measured, is_open, own_cap, open_cap, cap_of, sum_on, spare_in, room};
 ghost use Rattle.capture.specs.declared.capture_fault.TheConstants.{MAX_IN_ROUND};
 ghost use Rattle.capture.specs.Faults.{IsInRounds};
 ghost use Rattle.capture.specs.Loads.{IsRow};
@@ -22,17 +22,18 @@ pub fn cap_row(
     config: &Config,
     rated: &[bool],
     open: &[bool],
+    spare: &[Vec<u32>],
     requests: &[Request],
     part: Part,
 ) -> Result<Vec<u32>, AllocError>
     requires within { All (IsInRounds last) requests.now }
     requires few { length requests.now < 2 ^ 32 }
-    ensures { IfOk result (λ row. IsRow (cap_of config.now rated.now open.now requests.now part) last row.items) }
+    ensures { IfOk result (λ row. IsRow (cap_of config.now rated.now open.now spare.now requests.now part) last row.items) }
 {
     if is_open(open, part) {
-        open_row(alloc, last, config, rated, requests, part)
+        open_row(alloc, last, config, rated, spare, requests, part)
     } else {
-        own_row(alloc, last, config, rated, requests, part)
+        own_row(alloc, last, config, rated, spare, requests, part)
     }
 }
 
@@ -42,21 +43,42 @@ fn own_row(
     last: u32,
     config: &Config,
     rated: &[bool],
+    spare: &[Vec<u32>],
     requests: &[Request],
     part: Part,
 ) -> Result<Vec<u32>, AllocError>
     requires within { All (IsInRounds last) requests.now }
     requires few { length requests.now < 2 ^ 32 }
-    ensures { IfOk result (λ row. IsRow (own_cap config.now rated.now requests.now part) last row.items) }
+    ensures { IfOk result (λ row. IsRow (own_cap config.now rated.now spare.now requests.now part) last row.items) }
 {
-    let mut row = load_row(alloc, last, config, requests, part)?;
     let usual = openings(config, part);
     if is_measured(rated, part) {
+        let mut row = room_row(alloc, last, config, spare, requests, part)?;
         let waiting = waiting_row(alloc, last, requests, part.number)?;
         raise_idle(&mut row, &waiting, usual);
+        Ok(row)
     } else {
+        let mut row = load_row(alloc, last, config, requests, part)?;
         raise(&mut row, usual);
+        Ok(row)
     }
+}
+
+// What a device started in each round, and what more it had room for.
+fn room_row(
+    alloc: Global,
+    last: u32,
+    config: &Config,
+    spare: &[Vec<u32>],
+    requests: &[Request],
+    part: Part,
+) -> Result<Vec<u32>, AllocError>
+    requires within { All (IsInRounds last) requests.now }
+    requires few { length requests.now < 2 ^ 32 }
+    ensures { IfOk result (λ row. IsRow (room config.now spare.now requests.now part) last row.items) }
+{
+    let mut row = load_row(alloc, last, config, requests, part)?;
+    add_spare(&mut row, spare, part.number);
     Ok(row)
 }
 
@@ -66,19 +88,20 @@ fn open_row(
     last: u32,
     config: &Config,
     rated: &[bool],
+    spare: &[Vec<u32>],
     requests: &[Request],
     part: Part,
 ) -> Result<Vec<u32>, AllocError>
     requires within { All (IsInRounds last) requests.now }
     requires few { length requests.now < 2 ^ 32 }
-    ensures { IfOk result (λ row. IsRow (open_cap config.now rated.now requests.now part) last row.items) }
+    ensures { IfOk result (λ row. IsRow (open_cap config.now rated.now spare.now requests.now part) last row.items) }
 {
     let usual = openings(config, part);
     if u64::from(usual) < openings_on(config, part.number) {
         return vec![in alloc; MAX_IN_ROUND; last as usize + 1];
     }
     let mut row = load_row(alloc, last, config, requests, part)?;
-    let devices = devices_row(alloc, last, config, rated, requests, part.number)?;
+    let devices = devices_row(alloc, last, config, rated, spare, requests, part.number)?;
     raise_to(&mut row, usual, &devices);
     Ok(row)
 }
@@ -106,12 +129,13 @@ fn devices_row(
     last: u32,
     config: &Config,
     rated: &[bool],
+    spare: &[Vec<u32>],
     requests: &[Request],
     adapter: u32,
 ) -> Result<Vec<u32>, AllocError>
     requires within { All (IsInRounds last) requests.now }
     requires few { length requests.now < 2 ^ 32 }
-    ensures { IfOk result (λ row. IsRow (λ round. min MAX_IN_ROUND (sum_on config.now adapter (λ d. own_cap config.now rated.now requests.now d round))) last row.items) }
+    ensures { IfOk result (λ row. IsRow (λ round. min MAX_IN_ROUND (sum_on config.now adapter (λ d. own_cap config.now rated.now spare.now requests.now d round))) last row.items) }
 {
     let mut sums = vec![in alloc; 0; last as usize + 1]?;
     for number in 0..config.devices().len() as u32 {
@@ -120,7 +144,7 @@ fn devices_row(
                 kind: PartKind::Device,
                 number,
             };
-            let own = own_row(alloc, last, config, rated, requests, part)?;
+            let own = own_row(alloc, last, config, rated, spare, requests, part)?;
             add_row(&mut sums, &own);
         }
     }
@@ -175,6 +199,28 @@ fn is_flagged(flags: &[bool], number: u32) -> bool
     match flags.get(number as usize) {
         Some(flag) => *flag,
         None => false,
+    }
+}
+
+// Adds the starts more that a device had room for, up to the most that a cap says.
+fn add_spare(row: &mut [u32], spare: &[Vec<u32>], device: u32)
+    ensures { (round : ℕ) → round < length row.old → slice_index row.new round ≡ min MAX_IN_ROUND (slice_index row.old round + spare_in spare.now device round) }
+{
+    for round in 0..row.len() {
+        row[round] = MAX_IN_ROUND.min(row[round].saturating_add(spare_at(spare, device, round)));
+    }
+}
+
+// How many starts more a device had room for in a round.
+fn spare_at(spare: &[Vec<u32>], device: u32, round: usize) -> u32
+    ensures { result ≡ spare_in spare.now device round }
+{
+    match spare.get(device as usize) {
+        Some(row) => match row.get(round) {
+            Some(number) => *number,
+            None => 0,
+        },
+        None => 0,
     }
 }
 

@@ -57,6 +57,7 @@ impl Capture {
     ) -> Result<Capture, CaptureFault>
         requires { 1 ≤ round.count }
         ensures capture { IfOk result (λ c. c ≡ in_rounds round requests.now) }
+        ensures own { IfOk result (λ c. c ≡ in_rounds c.unit requests.now) }
         ensures each_once { IfOk result (λ c. length c.requests ≡ count_by is_started requests.now) }
         ensures ok { OnOk result (capture_fault round requests.now ≡ None) }
         ensures err { IfErr result (λ e. e ≢ OutOfMemory → capture_fault round requests.now ≡ Some e) }
@@ -72,6 +73,14 @@ impl Capture {
             rounds,
             requests,
         })
+    }
+
+    /// How long a round is.
+    pub fn round(&self) -> Span
+        ensures same { result ≡ self.now.unit }
+        ensures kept { IsCapture self.now }
+    {
+        self.round
     }
 
     /// The last round, 1 to 65,535.
@@ -119,11 +128,12 @@ impl Capture {
         config: &Config,
         rated: &[bool],
         open: &[bool],
+        spare: &[Vec<u32>],
         names: Vec<Name>,
     ) -> Result<Recording, CaptureFault>
         requires { config.now.lanes ≡ [] }
-        ensures recording { IfOk result (λ r. r ≡ recorded_of config.now rated.now open.now names.items self.now) }
-        ensures captured { IfOk result (λ r. (requests : List TimedRequest) → self.now ≡ in_rounds self.now.unit requests → r ≡ captured self.now.unit config.now rated.now open.now names.items requests) }
+        ensures recording { IfOk result (λ r. r ≡ recorded_of config.now rated.now open.now spare.now names.items self.now) }
+        ensures captured { IfOk result (λ r. (requests : List TimedRequest) → self.now ≡ in_rounds self.now.unit requests → r ≡ captured self.now.unit config.now rated.now open.now spare.now names.items requests) }
         // If an adapter's openings are unknown, only its devices limit.
         ensures never_limits { IfOk result (λ r. NeverLimits open.now r) }
         ensures ok { OnOk result (recording_fault config.now names.items self.now ≡ None) }
@@ -136,6 +146,7 @@ impl Capture {
             config,
             rated,
             open,
+            spare,
             names,
             &self.requests,
         )

@@ -18,6 +18,9 @@ pub enum CaptureFault {
     /// The request of this number was started before it arrived.
     #[error("request {0}: started before it arrived")]
     StartedEarly(usize),
+    /// The request of this number was completed before it was started.
+    #[error("request {0}: completed before it was started")]
+    EndedEarly(usize),
     /// No request was started.
     #[error("nothing was started")]
     NothingStarted,

@@ -1,12 +1,12 @@
 //! The recording of requests in rounds.
 
-ghost use Rattle.std.specs.Prelude.{◌≡◌, ◌≢◌, ◌<◌, ◌≤◌, ◌^◌, ◌++◌, ◌∷◌, None, Some, [], ℕ, All, IfOk, IfErr, OnOk, length};
+ghost use Rattle.std.specs.Prelude.{◌≡◌, ◌≢◌, ◌<◌, ◌≤◌, ◌^◌, ◌++◌, ◌∷◌, None, Some, [], ℕ, true, All, IfOk, IfErr, OnOk, length};
 ghost use Rattle.std.specs.List.{flat_map};
 ghost use Rattle.cam_types.specs.Topology.{IsConfig};
 ghost use Rattle.cam_types.specs.Lists.{prefixed, first_answer};
-ghost use Rattle.recording_file.specs.Recorded.{request_cause};
+ghost use Rattle.recording_file.specs.Recorded.{is_done_right, request_cause};
 ghost use Rattle.recording_file.specs.declared.limits.TheConstants.{MAX_REQUESTS};
-ghost use Rattle.capture.specs.Captured.{recorded_of, part_caps};
+ghost use Rattle.capture.specs.Captured.{has_completions, recorded_of, part_caps};
 ghost use Rattle.capture.specs.Faults.{IsCapture, IsInRounds, starts_in, device_fault, name_fault, recording_fault, OutOfMemory};
 ghost use Rattle.capture.specs.Parts.{all_parts};
 ghost use Rattle.capture.specs.declared.capture_fault.TheConstants.{MAX_IN_ROUND};
@@ -27,21 +27,37 @@ pub fn recording_with(
     config: &Config,
     rated: &[bool],
     open: &[bool],
+    spare: &[Vec<u32>],
     names: Vec<Name>,
     requests: &[Request],
 ) -> Result<Recording, CaptureFault>
     requires capture { IsCapture (record { unit = round; rounds = rounds; requests = requests.now }) }
     requires lanes { config.now.lanes ≡ [] }
-    ensures recording { IfOk result (λ r. r ≡ recorded_of config.now rated.now open.now names.items (record { unit = round; rounds = rounds; requests = requests.now })) }
+    ensures recording { IfOk result (λ r. r ≡ recorded_of config.now rated.now open.now spare.now names.items (record { unit = round; rounds = rounds; requests = requests.now })) }
     ensures ok { OnOk result (recording_fault config.now names.items (record { unit = round; rounds = rounds; requests = requests.now }) ≡ None) }
     ensures err { IfErr result (λ e. e ≢ OutOfMemory → recording_fault config.now names.items (record { unit = round; rounds = rounds; requests = requests.now }) ≡ Some e) }
 {
     check_devices(config, requests)?;
     let parts = all_parts(alloc, config)?;
-    let mut recorder = Recorder::new(alloc, Some(round), rounds, config.copy(alloc)?);
+    let mut recorder = Recorder::new(
+        alloc,
+        Some(round),
+        rounds,
+        config.copy(alloc)?,
+        has_completions(requests),
+    );
     add_names(&mut recorder, names)?;
-    add_caps(alloc, &mut recorder, config, rated, open, requests, &parts)?;
-    add_requests(alloc, &mut recorder, config, rated, open, requests)?;
+    add_caps(
+        alloc,
+        &mut recorder,
+        config,
+        rated,
+        open,
+        spare,
+        requests,
+        &parts,
+    )?;
+    add_requests(alloc, &mut recorder, config, rated, open, spare, requests)?;
     Ok(recorder.finish())
 }
 
@@ -84,6 +100,7 @@ fn add_caps(
     config: &Config,
     rated: &[bool],
     open: &[bool],
+    spare: &[Vec<u32>],
     requests: &[Request],
     parts: &[Part],
 ) -> Result<(), AllocError>
@@ -95,7 +112,7 @@ fn add_caps(
     requires config { recorder.old.config ≡ config.now }
     requires none { recorder.old.requests ≡ [] }
     requires empty { recorder.old.caps ≡ [] }
-    ensures { OnOk result (recorder.new ≡ record recorder.old { caps = flat_map (part_caps config.now rated.now open.now requests.now recorder.old.rounds) (all_parts config.now) }) }
+    ensures { OnOk result (recorder.new ≡ record recorder.old { caps = flat_map (part_caps config.now rated.now open.now spare.now requests.now recorder.old.rounds) (all_parts config.now) }) }
 {
     for part in parts {
         let row = cap_row(
@@ -104,6 +121,7 @@ fn add_caps(
             config,
             rated,
             open,
+            spare,
             requests,
             *part,
         )?;
@@ -119,6 +137,7 @@ fn add_requests(
     config: &Config,
     rated: &[bool],
     open: &[bool],
+    spare: &[Vec<u32>],
     requests: &[Request],
 ) -> Result<(), AllocError>
     requires within { All (IsInRounds recorder.old.rounds) requests.now }
@@ -126,9 +145,10 @@ fn add_requests(
     requires kept { IsConfig config.now }
     requires crowds { (round : ℕ) → 1 ≤ round → round ≤ recorder.old.rounds → starts_in requests.now round ≤ MAX_IN_ROUND }
     requires devices { device_fault config.now requests.now ≡ None }
+    requires completions { recorder.old.completions ≡ has_completions requests.now }
     requires config { recorder.old.config ≡ config.now }
     requires none { recorder.old.requests ≡ [] }
-    requires caps { recorder.old.caps ≡ flat_map (part_caps config.now rated.now open.now requests.now recorder.old.rounds) (all_parts config.now) }
+    requires caps { recorder.old.caps ≡ flat_map (part_caps config.now rated.now open.now spare.now requests.now recorder.old.rounds) (all_parts config.now) }
     ensures { OnOk result (recorder.new ≡ record recorder.old { requests = requests.now }) }
 {
     for request in requests {
@@ -140,6 +160,7 @@ fn add_requests(
 // Adds a request that no cause speaks against.
 fn add_request(alloc: Global, recorder: &mut Recorder, request: Request) -> Result<(), AllocError>
     requires few { length recorder.old.requests < MAX_REQUESTS }
+    requires done { is_done_right recorder.old.completions request ≡ true }
     requires fits { request_cause recorder.old.rounds recorder.old.config recorder.old.caps (recorder.old.requests, request) ≡ None }
     ensures { OnOk result (recorder.new ≡ record recorder.old { requests = recorder.old.requests ++ request ∷ [] }) }
 {
@@ -148,4 +169,11 @@ fn add_request(alloc: Global, recorder: &mut Recorder, request: Request) -> Resu
         Err(RequestError::OutOfMemory) => Err(AllocError),
         Err(RequestError::Illegal(_)) => unreachable!(),
     }
+}
+
+// Whether a completion is known.
+fn has_completions(requests: &[Request]) -> bool
+    ensures { result ≡ has_completions requests.now }
+{
+    requests.iter().any(|request| request.done.is_some())
 }

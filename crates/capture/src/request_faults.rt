@@ -2,7 +2,7 @@
 
 ghost use Rattle.std.specs.Prelude.{◌≡◌, None, Some, OnOk, IfErr, length};
 ghost use Rattle.cam_types.specs.Lists.{prefixed, first_answer};
-ghost use Rattle.capture.specs.Faults.{request_fault, is_early};
+ghost use Rattle.capture.specs.Faults.{request_fault, is_early, is_ended_early};
 
 use crate::capture_fault::CaptureFault;
 use crate::timed_request::TimedRequest;
@@ -20,6 +20,9 @@ pub fn check_requests(requests: &[TimedRequest]) -> Result<(), CaptureFault>
         if is_early(request) {
             return Err(CaptureFault::StartedEarly(number));
         }
+        if is_ended_early(request) {
+            return Err(CaptureFault::EndedEarly(number));
+        }
     }
     Ok(())
 }
@@ -31,5 +34,15 @@ fn is_early(request: &TimedRequest) -> bool
     match request.started {
         Some(started) => started < request.arrival,
         None => false,
+    }
+}
+
+// Whether it was completed before it was started.
+fn is_ended_early(request: &TimedRequest) -> bool
+    ensures { result ≡ is_ended_early request.now }
+{
+    match (request.started, request.completed) {
+        (Some(started), Some(completed)) => completed < started,
+        _ => false,
     }
 }

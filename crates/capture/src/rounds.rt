@@ -1,9 +1,9 @@
 //! Times as rounds.
 
-ghost use Rattle.std.specs.Prelude.{◌≡◌, ◌≤◌, None, Some, IfOk, IfErr, OnOk, length, map, All};
+ghost use Rattle.std.specs.Prelude.{◌≡◌, ◌≤◌, None, Some, IfOk, IfErr, OnOk, length, map, All, option_and_then};
 ghost use Rattle.recording_file.specs.declared.limits.TheConstants.{MAX_RECORDED_ROUNDS};
 ghost use Rattle.capture.specs.Timed.{start_of};
-ghost use Rattle.capture.specs.Rounds.{round_at, first_arrival, rounds_of, unless_end, last_round, request_in};
+ghost use Rattle.capture.specs.Rounds.{round_at, first_arrival, rounds_of, unless_end, last_round, done_round, request_in};
 ghost use Rattle.capture.specs.Faults.{size_fault};
 
 use crate::capture_fault::CaptureFault;
@@ -83,6 +83,7 @@ fn request_in(span: u64, begin: u64, rounds: u32, request: &TimedRequest) -> Req
         arrival: round_at(span, begin, rounds, request.arrival),
         last: last_round(span, begin, rounds, sent, request.retried),
         sent,
+        done: done_round(span, begin, request.completed),
     }
 }
 
@@ -93,6 +94,20 @@ fn round_at(span: u64, begin: u64, rounds: u32, time: u64) -> u32
     ensures { result ≡ round_at span begin time }
 {
     (time.saturating_sub(begin) / span) as u32 + 1
+}
+
+// The round of a completion, if a recording can say it.
+#[tactic(auto, unfolding(crate::specs::Rounds::done_round))]
+fn done_round(span: u64, begin: u64, completed: Option<u64>) -> Option<u32>
+    requires { 1 ≤ span }
+    ensures { result ≡ option_and_then (done_round span begin) completed }
+{
+    let before = completed?.saturating_sub(begin) / span;
+    if before < u64::from(u32::MAX) {
+        Some(before as u32 + 1)
+    } else {
+        None
+    }
 }
 
 // The last round of a request that was started in a round, and whose next attempt arrives at a time.

@@ -9,6 +9,8 @@ pub struct TimedRequest {
     pub started: Option<u64>,
     /// When the next attempt of the same request arrives, if there is one.
     pub retried: Option<u64>,
+    /// When it was completed. None if that isn't known, or if it was put back.
+    pub completed: Option<u64>,
     /// The number of the driver that asked for it.
     pub driver: u8,
     /// The number of its device.

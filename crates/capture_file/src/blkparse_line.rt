@@ -1,7 +1,7 @@
 //! The lines of blkparse's default text.
 
 use crate::line_fault::{Field, LineFault};
-use crate::number::{number, time_of};
+use crate::number::number;
 use crate::words::{bracketed, next_word};
 
 // How the lines of the statistics begin.
@@ -154,10 +154,13 @@ fn time_word(text: &[u8]) -> Result<(u64, &[u8]), LineFault> {
 
 fn seconds(digits: &[u8]) -> Option<u64> {
     let point = digits.iter().position(|byte| *byte == b'.')?;
-    if digits.get(point..)?.len() != 10 {
+    let fraction = digits.get(point..)?.get(1..)?;
+    if fraction.len() != 9 {
         return None;
     }
-    time_of(digits, 1_000_000_000)
+    number(digits.get(..point)?)?
+        .checked_mul(1_000_000_000)?
+        .checked_add(number(fraction)?)
 }
 
 // A major and a minor number.

@@ -1,7 +1,7 @@
 //! Reads blkparse's text.
 
 use crate::blkparse_line::{Action, Extent, RequestEvent, event_of};
-use crate::blkparse_requests::{Outcome, Place, Requests};
+use crate::blkparse_requests::{Found, Kind, Outcome, Place, Requests};
 use crate::captured::{Capture, Counts};
 use crate::finishing::{Drivers, capture_of};
 use crate::line_fault::LineFault;
@@ -10,7 +10,8 @@ use crate::names::Names;
 use crate::options::{Options, Priorities};
 use crate::priority::{USUAL, flags_priority};
 use crate::sizes::Sizes;
-use capture::TimedRequest;
+use capture::{DeviceFlight, TimedRequest};
+use slots::{End, Flight};
 use std::alloc::{AllocError, Global};
 
 // A device by its own name: the number of the one as which it is listed, and what was counted.
@@ -64,17 +65,15 @@ impl<'a> BlkparseReader<'a> {
     ///
     /// `TooManyDevices` if more than 32 devices have requests, `OutOfMemory` if no memory is left.
     pub fn finish(self) -> Result<Capture, LineFault> {
-        self.capture()
-    }
-
-    fn capture(&self) -> Result<Capture, LineFault> {
         let mut counts = counts_with(self.counts, &self.own);
-        let found = self.requests.found();
-        let requests = with_starts(self.alloc, found, &self.own, &mut counts)?;
+        let found = self.requests.into_found();
+        let flights = flights_of(self.alloc, &found, &self.own)?;
+        let requests = with_starts(found, &self.own, &mut counts);
         capture_of(
             self.alloc,
             self.options,
             requests,
+            flights,
             self.listed.list(),
             self.drivers.list(),
             &self.sizes,
@@ -183,6 +182,7 @@ impl<'a> BlkparseReader<'a> {
             arrival: time,
             started: None,
             retried: None,
+            completed: None,
             driver,
             device,
             priority: own.unwrap_or(usual),
@@ -264,26 +264,75 @@ fn count_end(own: &mut Vec<OwnDevice>, device: usize) {
 }
 
 // The requests of devices that have starts, as those of the devices as which these are listed. The others are counted.
-fn with_starts(
-    alloc: Global,
-    found: &[Option<TimedRequest>],
-    own: &[OwnDevice],
-    counts: &mut Counts,
-) -> Result<Vec<TimedRequest>, AllocError> {
-    let mut requests = Vec::new(alloc);
-    for request in found {
-        if let Some(request) = request {
-            match listed_with_starts(own, request.device) {
-                Some(device) => requests.push(TimedRequest { device, ..*request })?,
-                None => {
-                    counts.requests_without_starts = counts
-                        .requests_without_starts
-                        .saturating_add(1);
-                }
-            }
+fn with_starts(found: Found, own: &[OwnDevice], counts: &mut Counts) -> Vec<TimedRequest> {
+    let mut requests = found.requests;
+    let mut kinds = found.kinds.iter();
+    let mut others: u64 = 0;
+    requests.retain(|request| {
+        if kinds.next().is_none_or(|kind| *kind == Kind::Gone) {
+            return false;
+        }
+        let has_starts = listed_with_starts(own, request.device).is_some();
+        if !has_starts {
+            others = others.saturating_add(1);
+        }
+        has_starts
+    });
+    counts.requests_without_starts = counts.requests_without_starts.saturating_add(others);
+    for request in requests.iter_mut() {
+        if let Some(device) = listed_with_starts(own, request.device) {
+            request.device = device;
         }
     }
-    Ok(requests)
+    requests
+}
+
+// What held a slot, by the numbers of the devices as which these are listed.
+fn flights_of(
+    alloc: Global,
+    found: &Found,
+    own: &[OwnDevice],
+) -> Result<Vec<DeviceFlight>, AllocError> {
+    let mut flights = Vec::new(alloc);
+    for (request, kind) in found.requests.iter().zip(found.kinds.iter()) {
+        if *kind == Kind::Holds
+            && let Some(flight) = flight_of(request)
+        {
+            push_listed(&mut flights, own, flight)?;
+        }
+    }
+    for flight in &found.early {
+        push_listed(&mut flights, own, *flight)?;
+    }
+    Ok(flights)
+}
+
+// The flight of a request, if it was started.
+fn flight_of(request: &TimedRequest) -> Option<DeviceFlight> {
+    let start = request.started?;
+    let end = match (request.completed, request.retried) {
+        (Some(time), _) => End::Completed(time),
+        (None, Some(time)) => End::PutBack(time),
+        (None, None) => End::Unknown,
+    };
+    Some(DeviceFlight {
+        device: request.device,
+        flight: Flight { start, end },
+    })
+}
+
+fn push_listed(
+    flights: &mut Vec<DeviceFlight>,
+    own: &[OwnDevice],
+    flight: DeviceFlight,
+) -> Result<(), AllocError> {
+    if let Some(device) = own.get(flight.device as usize) {
+        flights.push(DeviceFlight {
+            device: device.listed,
+            ..flight
+        })?;
+    }
+    Ok(())
 }
 
 fn counts_with(counts: Counts, own: &[OwnDevice]) -> Counts {

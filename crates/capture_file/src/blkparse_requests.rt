@@ -2,7 +2,8 @@
 
 use crate::blkparse_line::Action;
 use crate::queues::Queues;
-use capture::TimedRequest;
+use capture::{DeviceFlight, TimedRequest};
+use slots::{End, Flight};
 use std::alloc::{AllocError, Global};
 
 /// Where a request is: its device and its first sector. A flush has none.
@@ -36,33 +37,63 @@ pub enum Outcome {
     EndedUnstarted,
 }
 
-/// The requests, in the order of their arrivals. None: it became a part of another, or ended without a start.
+/// What became of an attempt of a request, and whether it holds a slot while it is in flight.
+#[derive(Clone, Copy, PartialEq, Eq)]
+pub enum Kind {
+    /// It became a part of another, or ended without a start.
+    Gone,
+    /// A flush, which holds no slot.
+    Flush,
+    /// It holds a slot.
+    Holds,
+}
+
+/// What was found: attempts in the order of their arrivals, the kind of each, and what was started before its arrival was seen, by
+/// the own number of its device.
+#[derive(Drop)]
+pub struct Found {
+    pub requests: Vec<TimedRequest>,
+    pub kinds: Vec<Kind>,
+    pub early: Vec<DeviceFlight>,
+}
+
+/// The requests, and those of them that wait and that were started, by their places in the list.
 #[derive(Drop)]
 pub struct Requests {
-    found: Vec<Option<TimedRequest>>,
+    found: Found,
     waiting: Queues<Place>,
     started: Queues<Place>,
+    early_started: Queues<Place>,
 }
 
 impl Requests {
     /// No requests yet.
     pub fn new(alloc: Global) -> Requests {
         Requests {
-            found: Vec::new(alloc),
+            found: Found {
+                requests: Vec::new(alloc),
+                kinds: Vec::new(alloc),
+                early: Vec::new(alloc),
+            },
             waiting: Queues::new(alloc),
             started: Queues::new(alloc),
+            early_started: Queues::new(alloc),
         }
     }
 
     /// What was found.
-    pub fn found(&self) -> &[Option<TimedRequest>] {
-        self.found.as_slice()
+    pub fn into_found(self) -> Found {
+        self.found
     }
 
     /// Adds a request that arrives.
     pub fn arrive(&mut self, place: Place, request: TimedRequest) -> Result<(), AllocError> {
-        let slot = self.found.len();
-        self.found.push(Some(request))?;
+        let slot = self.found.requests.len();
+        self.found.requests.push(request)?;
+        self.found.kinds.push(match place.sector {
+            Some(_) => Kind::Holds,
+            None => Kind::Flush,
+        })?;
         self.waiting.push(place, slot)
     }
 
@@ -80,7 +111,7 @@ impl Requests {
             Action::JoinsFront => self.join_front(place, behind),
             Action::Starts => self.start(place, time),
             Action::Returns => self.put_back(place, time),
-            Action::Completes => Ok(self.complete(place)),
+            Action::Completes => Ok(self.complete(place, time)),
         }
     }
 
@@ -105,20 +136,47 @@ impl Requests {
 
     fn start(&mut self, place: Place, time: u64) -> Result<Outcome, AllocError> {
         let Some(slot) = self.waiting.pop(&place) else {
+            self.start_early(place, time)?;
             return Ok(Outcome::Stray);
         };
         self.started.push(place, slot)?;
-        match self.found.get_mut(slot) {
-            Some(Some(request)) => {
+        match self.found.requests.get_mut(slot) {
+            Some(request) => {
                 request.started = Some(time);
                 Ok(Outcome::Started(request.arrival))
             }
-            _ => Ok(Outcome::Known),
+            None => Ok(Outcome::Known),
         }
+    }
+
+    // The start of a request whose arrival wasn't seen.
+    fn start_early(&mut self, place: Place, start: u64) -> Result<(), AllocError> {
+        if place.sector.is_none() {
+            return Ok(());
+        }
+        let slot = self.found.early.len();
+        let end = End::Unknown;
+        self.found.early.push(DeviceFlight {
+            device: u32::try_from(place.device).unwrap_or(u32::MAX),
+            flight: Flight { start, end },
+        })?;
+        self.early_started.push(place, slot)
+    }
+
+    // The end of the request of the place whose arrival wasn't seen, if there is one.
+    fn end_early(&mut self, place: Place, end: End) -> bool {
+        let Some(slot) = self.early_started.pop(&place) else {
+            return false;
+        };
+        if let Some(of) = self.found.early.get_mut(slot) {
+            of.flight.end = end;
+        }
+        true
     }
 
     fn put_back(&mut self, place: Place, time: u64) -> Result<Outcome, AllocError> {
         let Some(slot) = self.started.pop(&place) else {
+            self.end_early(place, End::PutBack(time));
             return Ok(Outcome::Stray);
         };
         if let Some(next) = self.next_attempt(slot, time) {
@@ -128,9 +186,7 @@ impl Requests {
     }
 
     fn next_attempt(&mut self, slot: usize, time: u64) -> Option<TimedRequest> {
-        let Some(Some(request)) = self.found.get_mut(slot) else {
-            return None;
-        };
+        let request = self.found.requests.get_mut(slot)?;
         request.retried = Some(time);
         Some(TimedRequest {
             arrival: time,
@@ -140,9 +196,15 @@ impl Requests {
         })
     }
 
-    fn complete(&mut self, place: Place) -> Outcome {
-        if self.started.pop(&place).is_some() {
+    fn complete(&mut self, place: Place, time: u64) -> Outcome {
+        if let Some(slot) = self.started.pop(&place) {
+            if let Some(request) = self.found.requests.get_mut(slot) {
+                request.completed = Some(time);
+            }
             return Outcome::Known;
+        }
+        if self.end_early(place, End::Completed(time)) {
+            return Outcome::Stray;
         }
         match self.waiting.pop(&place) {
             None => Outcome::Stray,
@@ -155,13 +217,14 @@ impl Requests {
 
     // The list ends with a request that is there, so that merged ones take no room.
     fn forget(&mut self, slot: usize) {
-        if let Some(request) = self.found.get_mut(slot) {
-            *request = None;
+        if let Some(kind) = self.found.kinds.get_mut(slot) {
+            *kind = Kind::Gone;
         }
-        for _ in 0..self.found.len() {
-            match self.found.last() {
-                Some(None) => {
-                    self.found.pop();
+        for _ in 0..self.found.kinds.len() {
+            match self.found.kinds.last() {
+                Some(Kind::Gone) => {
+                    self.found.kinds.pop();
+                    self.found.requests.pop();
                 }
                 _ => break,
             }

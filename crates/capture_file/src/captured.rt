@@ -1,12 +1,15 @@
 //! What is read from a capture.
 
-use capture::TimedRequest;
+use capture::{DeviceFlight, TimedRequest};
 
 /// The requests of a capture, by arrival, and of equal arrivals in the order of the input.
 #[derive(Debug, Drop)]
 pub struct Capture {
     /// The requests. Their drivers and devices are places in the two lists below.
     pub requests: Vec<TimedRequest>,
+    /// What held a slot of a device, also of requests that aren't taken: they arrived at other times, or before the capture began.
+    /// None of fio's logs, which don't know when a request was started.
+    pub flights: Vec<DeviceFlight>,
     /// The devices that have requests, in the order in which the input names them: `8,16` (major and minor number), or the
     /// name of a file. At most 32.
     pub devices: Vec<String>,

@@ -11,8 +11,9 @@ use crate::options::{CsvTimeUnit, Options, Priorities};
 use crate::priority::USUAL;
 use crate::quotes::are_quotes_whole;
 use crate::sizes::Sizes;
-use capture::TimedRequest;
+use capture::{DeviceFlight, TimedRequest};
 use csv::{ByteRecord, ReaderBuilder};
+use slots::{End, Flight};
 use std::alloc::{AllocError, Global};
 
 // With it some programs begin a text of UTF-8.
@@ -22,7 +23,7 @@ const BYTE_ORDER_MARK: &[u8] = b"\xef\xbb\xbf";
 ///
 /// The header names the columns `arrival`, `start`, `end`, `device`, `driver` and `priority` in any order, and others, which aren't
 /// read; `arrival`, `start` and `device` are needed. Times are decimal numbers of a unit, also with a fraction, of which the part below a nanosecond is
-/// dropped. A request with an empty start was never started. `end` may be empty and isn't used. With no driver a request is of
+/// dropped. A request with an empty start was never started. A request with an empty end wasn't completed, as far as is known. With no driver a request is of
 /// the driver `driver`, with no priority it is as best effort of level 4. No field has an end of a line.
 #[derive(Drop)]
 pub struct CsvReader<'a> {
@@ -34,6 +35,7 @@ pub struct CsvReader<'a> {
     devices: Names,
     drivers: Drivers,
     requests: Vec<TimedRequest>,
+    flights: Vec<DeviceFlight>,
     counts: Counts,
 }
 
@@ -49,6 +51,7 @@ impl<'a> CsvReader<'a> {
             devices: Names::new(alloc),
             drivers: Drivers::new(alloc),
             requests: Vec::new(alloc),
+            flights: Vec::new(alloc),
             counts: Counts::default(),
         }
     }
@@ -68,6 +71,7 @@ impl<'a> CsvReader<'a> {
             self.alloc,
             self.options,
             requests,
+            self.flights,
             self.devices.list(),
             self.drivers.list(),
             &Sizes::new(self.alloc),
@@ -115,10 +119,16 @@ impl<'a> CsvReader<'a> {
         };
         let device = self.device(device)?;
         let priority = own.unwrap_or(usual_priority(self.options.priorities, row.priority));
+        if let Some(start) = row.started {
+            let end = row.completed.map_or(End::Unknown, End::Completed);
+            let flight = Flight { start, end };
+            self.flights.push(DeviceFlight { device, flight })?;
+        }
         self.requests.push(TimedRequest {
             arrival: row.arrival,
             started: row.started,
             retried: None,
+            completed: row.completed,
             driver,
             device,
             priority,
@@ -140,8 +150,8 @@ impl LineReader for CsvReader<'_> {
     ///
     /// # Errors
     ///
-    /// `DoubleColumn` and `MissingColumn` of the header; `SecondHeader`, `BadRecord`, `BadNumber`, `StartedEarly` and
-    /// `TooManyDrivers` of the other lines; `BadQuotes`; `OutOfMemory`.
+    /// `DoubleColumn` and `MissingColumn` of the header; `SecondHeader`, `BadRecord`, `BadNumber`, `StartedEarly`, `EndedEarly`, `EndedUnstarted`
+    /// and `TooManyDrivers` of the other lines; `BadQuotes`; `OutOfMemory`.
     fn take(&mut self, line: &[u8]) -> Result<(), LineFault> {
         self.counts.lines = self.counts.lines.saturating_add(1);
         if line.trim_ascii().is_empty() {

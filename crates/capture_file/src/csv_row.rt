@@ -11,6 +11,7 @@ use csv::ByteRecord;
 pub struct CsvRow<'a> {
     pub arrival: u64,
     pub started: Option<u64>,
+    pub completed: Option<u64>,
     pub priority: Option<u32>,
     pub device: &'a [u8],
     pub driver: &'a [u8],
@@ -21,26 +22,35 @@ pub fn csv_row(unit: u64, columns: Columns, row: &ByteRecord) -> Result<CsvRow<'
     if row.len() != columns.count {
         return Err(LineFault::BadRecord);
     }
-    let (arrival, started) = times(unit, columns, row)?;
+    let (arrival, started, completed) = times(unit, columns, row)?;
     let priority = stated_priority(field(row, columns.priority))?;
     Ok(CsvRow {
         arrival,
         started,
+        completed,
         priority,
         device: field(row, Some(columns.device)),
         driver: driver_name(field(row, columns.driver)),
     })
 }
 
-// The arrival and the start. The end is only looked at.
-fn times(unit: u64, columns: Columns, row: &ByteRecord) -> Result<(u64, Option<u64>), LineFault> {
+// The arrival, the start and the end.
+fn times(
+    unit: u64,
+    columns: Columns,
+    row: &ByteRecord,
+) -> Result<(u64, Option<u64>, Option<u64>), LineFault> {
     let arrival = time(unit, field(row, Some(columns.arrival)), Field::Time)?;
     let started = optional_time(unit, field(row, Some(columns.start)), Field::Start)?;
-    optional_time(unit, field(row, columns.end), Field::End)?;
+    let completed = optional_time(unit, field(row, columns.end), Field::End)?;
     if started.is_some_and(|time| time < arrival) {
         return Err(LineFault::StartedEarly);
     }
-    Ok((arrival, started))
+    match (started, completed) {
+        (None, Some(_)) => Err(LineFault::EndedUnstarted),
+        (Some(start), Some(end)) if end < start => Err(LineFault::EndedEarly),
+        _ => Ok((arrival, started, completed)),
+    }
 }
 
 fn time(unit: u64, text: &[u8], name: Field) -> Result<u64, LineFault> {

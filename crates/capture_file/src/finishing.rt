@@ -5,7 +5,7 @@ use crate::line_fault::LineFault;
 use crate::names::Names;
 use crate::options::Options;
 use crate::sizes::Sizes;
-use capture::TimedRequest;
+use capture::{DeviceFlight, TimedRequest};
 use std::alloc::{AllocError, Global};
 
 // The most devices that a capture has.
@@ -55,11 +55,12 @@ impl Drivers {
 }
 
 /// The capture of requests: those that arrive within the times that are taken, by arrival, with the drivers and devices that
-/// they have.
+/// they have; and what was in flight at these devices.
 pub fn capture_of(
     alloc: Global,
     options: &Options,
     mut requests: Vec<TimedRequest>,
+    mut flights: Vec<DeviceFlight>,
     devices: &[Vec<u8>],
     drivers: &[Vec<u8>],
     sizes: &Sizes,
@@ -81,6 +82,10 @@ pub fn capture_of(
         *request = renumbered(*request, &device_numbers, &driver_numbers);
         request.retried = request.retried.filter(|time| options.is_before_end(*time));
     }
+    flights.retain(|flight| is_used(&used_devices, flight.device));
+    for flight in flights.iter_mut() {
+        flight.device = new_number(&device_numbers, flight.device as usize);
+    }
     count_requests(&mut counts, &requests);
     let devices = used_names(alloc, devices, &used_devices)?;
     if devices.len() > MAX_DEVICES {
@@ -88,6 +93,7 @@ pub fn capture_of(
     }
     Ok(Capture {
         requests,
+        flights,
         devices,
         drivers: used_names(alloc, drivers, &used_drivers)?,
         uneven: uneven_devices(alloc, &used_devices, sizes)?,
@@ -116,6 +122,10 @@ fn mark(used: &mut Vec<bool>, number: usize) {
     if let Some(used) = used.get_mut(number) {
         *used = true;
     }
+}
+
+fn is_used(used: &[bool], number: u32) -> bool {
+    used.get(number as usize).copied().unwrap_or(false)
 }
 
 // For each number how many of the numbers before it are used.

@@ -80,6 +80,7 @@ impl Job {
                 arrival,
                 started: None,
                 retried: None,
+                completed: None,
                 driver: self.driver,
                 device: device.unwrap_or(0),
                 priority,

@@ -105,6 +105,12 @@ pub enum LineFault {
     /// The request was started before it arrived.
     #[error("the start is before the arrival")]
     StartedEarly,
+    /// The request was completed before it was started.
+    #[error("the end is before the start")]
+    EndedEarly,
+    /// The request was completed and never started.
+    #[error("an end without a start")]
+    EndedUnstarted,
     /// The line is longer than 65,536 bytes.
     #[error("a line of more than 65,536 bytes")]
     TooLong,

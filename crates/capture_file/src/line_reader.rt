@@ -1,8 +1,8 @@
 //! Feeds a reader of captures line by line.
 
 use crate::line_fault::LineFault;
-use memchr::memchr;
-use std::alloc::{AllocError, Global};
+use memchr::{memchr, memchr_iter};
+use std::alloc::Global;
 use std::io;
 use std::io::Read;
 use thiserror::Error;
@@ -99,33 +99,32 @@ impl<'a> Lines<'a> {
     }
 
     fn take<T: LineReader>(&mut self, bytes: &[u8], reader: &mut T) -> Result<(), ReadFault> {
-        let mut is_first = true;
-        for piece in bytes.split(|byte| *byte == b'\n') {
-            if !is_first {
-                self.end_line(reader)?;
-            }
-            is_first = false;
-            if self.add(piece).is_err() {
-                return Err(ReadFault::OutOfMemory);
-            }
-            if self.too_long && !self.lenient {
-                return Err(ReadFault::Line(self.number(), LineFault::TooLong));
-            }
+        let mut begin = 0;
+        for end in memchr_iter(b'\n', bytes) {
+            self.add(bytes.get(begin..end).unwrap_or(b""))?;
+            self.end_line(reader)?;
+            begin = end.saturating_add(1);
         }
-        Ok(())
+        self.add(bytes.get(begin..).unwrap_or(b""))
     }
 
     fn number(&self) -> u64 {
         self.before.saturating_add(1)
     }
 
-    fn add(&mut self, piece: &[u8]) -> Result<(), AllocError> {
+    fn add(&mut self, piece: &[u8]) -> Result<(), ReadFault> {
         let room = MAX_LINE_BYTES.saturating_sub(self.line.len());
         if piece.len() > room {
             self.too_long = true;
         }
-        self.line
-            .extend_from_slice(piece.get(..room).unwrap_or(piece))
+        let part = piece.get(..room).unwrap_or(piece);
+        if self.line.extend_from_slice(part).is_err() {
+            return Err(ReadFault::OutOfMemory);
+        }
+        if self.too_long && !self.lenient {
+            return Err(ReadFault::Line(self.number(), LineFault::TooLong));
+        }
+        Ok(())
     }
 
     fn end_line<T: LineReader>(&mut self, reader: &mut T) -> Result<(), ReadFault> {

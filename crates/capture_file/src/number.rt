@@ -2,34 +2,42 @@
 
 /// The number that decimal digits spell, where it is below 2^64.
 pub fn number(text: &[u8]) -> Option<u64> {
-    number_of_base(10, text)
-}
-
-/// The number that hexadecimal digits spell, where it is below 2^64.
-pub fn hexadecimal(text: &[u8]) -> Option<u64> {
-    number_of_base(16, text)
-}
-
-fn number_of_base(base: u32, text: &[u8]) -> Option<u64> {
     if text.is_empty() {
         return None;
     }
     let mut value: u64 = 0;
     for byte in text {
-        let digit = digit_of_base(base, *byte)?;
-        value = value.checked_mul(u64::from(base))?.checked_add(digit)?;
+        value = value.checked_mul(10)?.checked_add(digit(*byte)?)?;
     }
     Some(value)
 }
 
-fn digit_of_base(base: u32, byte: u8) -> Option<u64> {
-    let digit = match byte {
-        b'0'..=b'9' => byte.checked_sub(b'0')?,
-        b'a'..=b'f' => byte.checked_sub(b'a')?.checked_add(10)?,
-        b'A'..=b'F' => byte.checked_sub(b'A')?.checked_add(10)?,
-        _ => return None,
+/// The number that hexadecimal digits spell, where it is below 2^64.
+pub fn hexadecimal(text: &[u8]) -> Option<u64> {
+    if text.is_empty() {
+        return None;
+    }
+    let mut value: u64 = 0;
+    for byte in text {
+        value = value
+            .checked_mul(16)?
+            .checked_add(hexadecimal_digit(*byte)?)?;
+    }
+    Some(value)
+}
+
+fn digit(byte: u8) -> Option<u64> {
+    let digit = byte.wrapping_sub(b'0');
+    (digit < 10).then_some(u64::from(digit))
+}
+
+fn hexadecimal_digit(byte: u8) -> Option<u64> {
+    let letter = match byte {
+        b'a'..=b'f' => byte.checked_sub(b'a')?,
+        b'A'..=b'F' => byte.checked_sub(b'A')?,
+        _ => return digit(byte),
     };
-    (u32::from(digit) < base).then_some(u64::from(digit))
+    Some(u64::from(letter.checked_add(10)?))
 }
 
 /// A time in nanoseconds: a decimal number of a unit, also with a fraction, of which the part below a nanosecond is dropped.
@@ -52,7 +60,7 @@ fn fraction_of(text: &[u8], unit: u64) -> Option<u64> {
     let mut place = unit;
     for byte in text {
         place /= 10;
-        let digit = digit_of_base(10, *byte)?;
+        let digit = digit(*byte)?;
         value = value.checked_add(digit.checked_mul(place)?)?;
     }
     Some(value)

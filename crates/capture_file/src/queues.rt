@@ -36,16 +36,14 @@ impl<K: Copy + Ord + Drop> Queues<K> {
     /// Adds a number at the end of a key's queue.
     pub fn push(&mut self, key: K, value: usize) -> Result<(), AllocError> {
         let last = self.links.insert(Link { value, next: None })?;
-        let first = match self.ends.get(&key).copied() {
-            None => last,
-            Some(ends) => {
-                if let Some(link) = self.links.get_mut(ends.last) {
-                    link.next = Some(last);
-                }
-                ends.first
+        if let Some(before) = self.ends.insert(key, Ends { first: last, last })? {
+            if let Some(link) = self.links.get_mut(before.last) {
+                link.next = Some(last);
             }
-        };
-        self.ends.insert(key, Ends { first, last })?;
+            if let Some(ends) = self.ends.get_mut(&key) {
+                ends.first = before.first;
+            }
+        }
         Ok(())
     }
 

@@ -1,5 +1,5 @@
 -- the recording of a history
-use Rattle.std.specs.Prelude.{ℕ, List, [], map, flat_map, None}
+use Rattle.std.specs.Prelude.{ℕ, false, List, [], map, flat_map, None}
 use Rattle.std.specs.List.{range_with_len}
 use Rattle.cam_types.specs.Topology.{Topology}
 use Rattle.event_rules.specs.Counts.{round}
@@ -45,6 +45,7 @@ recorded_with past caps requests = record {
   names = [];
   caps = caps;
   requests = requests;
+  completions = false;
 }
 
 -- the recording of a history: the caps of all rows, and a request for each stay, in creation order

@@ -27,6 +27,7 @@ request_of events p = record {
   arrival = p.arrival;
   last = unless_end (round events) (last_round events p);
   sent = live_round events p;
+  done = None;
 }
 
 -- the same by the record of the stay, in a history of that many rounds in which this was submitted
@@ -41,4 +42,5 @@ request_by submitted rounds r = record {
   arrival = r.stay.arrival;
   last = unless_end rounds (last_by rounds r);
   sent = unwrap_or r.sent rounds;
+  done = None;
 }

@@ -46,7 +46,7 @@ fn recording_by(alloc: Global, history: &History, net: &Net) -> Result<Recording
     ensures { IfOk result (λ r. r ≡ recorded_of history.now) }
 {
     let config = without_lanes(alloc, history.config())?;
-    let mut recorder = Recorder::new(alloc, None, history.round(), config);
+    let mut recorder = Recorder::new(alloc, None, history.round(), config, false);
     add_caps(&mut recorder, history, net)?;
     add_requests(alloc, &mut recorder, history)?;
     Ok(recorder.finish())

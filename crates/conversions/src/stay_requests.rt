@@ -1,8 +1,8 @@
 //! The stays of a history as requests.
 
-ghost use Rattle.std.specs.Prelude.{◌≡◌, ◌∷◌, ◌++◌, [], ◌<◌, None, OnOk, length};
+ghost use Rattle.std.specs.Prelude.{◌≡◌, ◌∷◌, ◌++◌, [], ◌<◌, true, None, OnOk, length};
 ghost use Rattle.event_rules.specs.Stays.{unsent};
-ghost use Rattle.recording_file.specs.Recorded.{request_cause};
+ghost use Rattle.recording_file.specs.Recorded.{is_done_right, request_cause};
 ghost use Rattle.recording_file.specs.declared.limits.TheConstants.{MAX_REQUESTS};
 ghost use Rattle.round_net.specs.Caps.{resource_count};
 ghost use Rattle.conversions.specs.Recorded.{caps_of, recorded_with, recorded_of};
@@ -36,6 +36,7 @@ pub fn add_requests(
 // Adds a request that no cause speaks against.
 fn add_request(alloc: Global, recorder: &mut Recorder, request: Request) -> Result<(), AllocError>
     requires few { length recorder.old.requests < MAX_REQUESTS }
+    requires done { is_done_right recorder.old.completions request ≡ true }
     requires fits { request_cause recorder.old.rounds recorder.old.config recorder.old.caps (recorder.old.requests, request) ≡ None }
     ensures { OnOk result (recorder.new ≡ record recorder.old { requests = recorder.old.requests ++ request ∷ [] }) }
 {
@@ -58,6 +59,7 @@ fn request_of(submitted: &[Submission], rounds: u32, kept: &StayRecord) -> Reque
         arrival: stay.arrival,
         last: unless_end(rounds, last_round(kept, rounds)),
         sent: kept.sent.unwrap_or(rounds),
+        done: None,
     }
 }
 

@@ -7,7 +7,7 @@ use Rattle.cam_types.specs.declared.limits.TheConstants.{MAX_PRIORITY}
 use Rattle.cam_types.proofs.ConfigLemmas.{few_adapters, few_devices, few_links}
 use Rattle.cam_types.proofs.ListLemmas.{or_left}
 use Rattle.cam_types.specs.Questions.{names_device}
-use Rattle.recording_file.specs.Recorded.{Recorded, Request, IsRecording, has_items, last_of, request_cause, plain_cause, window_cause, NoDevice, BadPriority, BadWindow, MAX_REQUESTS, MAX_RECORDED_ROUNDS}
+use Rattle.recording_file.specs.Recorded.{Recorded, Request, FitsFields, IsRecording, is_done_right, has_items, last_of, request_cause, plain_cause, window_cause, NoDevice, BadPriority, BadWindow, MAX_REQUESTS, MAX_RECORDED_ROUNDS}
 use Rattle.recording_file.proofs.PlaceLemmas.{device_there}
 use Rattle.recording_file.specs.Reading.{apply_parsed, add_name, add_cap, add_request, ended, recorded_of, stands, step, whole, RecordingParser}
 use Rattle.recording_file.specs.declared.recording_parser.RecordingParser.TheVariants as parser
@@ -17,7 +17,7 @@ use Rattle.recording_file.specs.Caps.{Cap, is_cap}
 use Rattle.recording_file.specs.Counts.{counts_of}
 use Rattle.recording_file.specs.Names.{NameValue, is_name}
 use Rattle.record_text.specs.Fields.{max_number}
-use Rattle.recording_file.specs.Records.{cap_row, name_row, request_row, FitsRequest}
+use Rattle.recording_file.specs.Records.{cap_row, name_row, request_row, FitsParsed, FitsRequest}
 use Rattle.record_text.specs.Steps.{taken}
 use Rattle.recording_file.proofs.AgainLaws.{parsed_step}
 use Rattle.record_text.proofs.ListLemmas.{Along, along_both, along_few, along_to, along_with, none_along, true_along}
@@ -149,7 +149,7 @@ one_cap r base h ns n before x e =
     ∙ cap_added n s (with_items r ns before []) x at.whole ∙ ap (λ (t : RecordingParser). Ok t) (book_cap r base h ns before x)
 
 abbrev pub GoodRequest : Recorded → List Request → Request → Type 0
-GoodRequest r before q = ((request_cause r.rounds r.config r.caps (before, q) ≡ None) × FitsRequest q) × (length before < MAX_REQUESTS)
+GoodRequest r before q = ((request_cause r.rounds r.config r.caps (before, q) ≡ None) × FitsParsed r (parsed.Request q)) × (length before < MAX_REQUESTS)
 
 one_request : (r : Recorded) (base : RecordingParser) → IsBase r base → (n : ℕ) (before : List Request) (q : Request) → GoodRequest r before q
     → step n (at_book base r.names r.caps before) (request_row q) ≡ Ok (at_book base r.names r.caps (before ++ q ∷ []))
@@ -157,13 +157,13 @@ unfolding apply_parsed
 one_request r base h n before q e =
     let s = at_book base r.names r.caps before in
     let at = book_at r base h r.names r.caps before in
-    parsed_step n s (parsed.Request q) at.headed tt (request_place r base h r.names r.caps before (lt-ltb _ _ e.1)) e.0.1
+    parsed_step n s (parsed.Request q) at.headed tt (request_place r base h r.names r.caps before (lt-ltb _ _ e.1)) (rw at.is e.0.1)
     ∙ request_added n s (with_items r r.names r.caps before) q at.whole e.0.0 ∙ ap (λ (t : RecordingParser). Ok t) (book_request r base h r.names r.caps before q)
 
 -- a request without a cause against it fits its fields
-request_fits : (rounds : ℕ) (c : Topology) (caps : List Cap) (before : List Request) (q : Request) → IsConfig c → rounds ≤ MAX_RECORDED_ROUNDS → request_cause rounds c caps (before, q) ≡ None → q.driver ≤ 255 → FitsRequest q
+request_fits : (rounds : ℕ) (c : Topology) (caps : List Cap) (before : List Request) (q : Request) → IsConfig c → rounds ≤ MAX_RECORDED_ROUNDS → request_cause rounds c caps (before, q) ≡ None → FitsFields q → FitsRequest q
 unfolding request_cause plain_cause window_cause
-request_fits rounds c caps before q is le e driver =
+request_fits rounds c caps before q is le e fields =
     let p = or_left (plain_cause rounds c q) _ e in
     let there = plain_none rounds c q p in
     let device = device_there c q.device is there.there in
@@ -176,7 +176,7 @@ request_fits rounds c caps before q is le e driver =
     let arrival = leb-true _ _ inner.0 in
     let last = leb-true _ _ inner.1 in
     let priority = ltb-false _ _ b.0 in
-    record { driver = driver; device = omega arith; priority = omega arith; arrival = omega arith; last = by q.last last; sent = omega arith }
+    record { driver = fields.0; device = omega arith; priority = omega arith; arrival = omega arith; last = by q.last last; sent = omega arith; done = fields.1 }
   where
     by : (o : Option ℕ) → option_map_or (λ n. n) o rounds ≤ rounds → IfSome o (λ n. n ≤ max_number)
     by None h = tt
@@ -187,11 +187,12 @@ good_requests r h =
     let kept = h.kept in
     let config : IsConfig r.config = record { kept = kept.head.config } in
     let causes = none_along (request_cause r.rounds r.config r.caps) [] r.requests kept.requests in
-    let both = along_both (λ b q. request_cause r.rounds r.config r.caps (b, q) ≡ None) (λ (q : Request). q.driver ≤ 255) [] r.requests causes h.drivers in
-    let fitting = along_to (λ b (q : Request). (request_cause r.rounds r.config r.caps (b, q) ≡ None) × (q.driver ≤ 255)) (λ b (q : Request). (request_cause r.rounds r.config r.caps (b, q) ≡ None) × FitsRequest q)
-    (λ b q k. (k.0, request_fits r.rounds r.config r.caps b q config kept.head.rounds k.0 k.1)) [] r.requests both in
+    let some = along_both (λ b q. request_cause r.rounds r.config r.caps (b, q) ≡ None) FitsFields [] r.requests causes h.fields in
+    let both = along_both (λ b (q : Request). (request_cause r.rounds r.config r.caps (b, q) ≡ None) × FitsFields q) (λ (q : Request). is_done_right r.completions q ≡ true) [] r.requests some kept.done in
+    let fitting = along_to (λ b (q : Request). ((request_cause r.rounds r.config r.caps (b, q) ≡ None) × FitsFields q) × (is_done_right r.completions q ≡ true)) (λ b (q : Request). (request_cause r.rounds r.config r.caps (b, q) ≡ None) × FitsParsed r (parsed.Request q))
+    (λ b q k. (k.0.0, (request_fits r.rounds r.config r.caps b q config kept.head.rounds k.0.0 k.0.1, k.1))) [] r.requests both in
     let few = kept.few in
-    along_with (λ b (q : Request). (request_cause r.rounds r.config r.caps (b, q) ≡ None) × FitsRequest q) (λ b q. length b < MAX_REQUESTS) [] r.requests fitting (along_few MAX_REQUESTS [] r.requests (omega arith))
+    along_with (λ b (q : Request). (request_cause r.rounds r.config r.caps (b, q) ≡ None) × FitsParsed r (parsed.Request q)) (λ b q. length b < MAX_REQUESTS) [] r.requests fitting (along_few MAX_REQUESTS [] r.requests (omega arith))
 
 -- the rows after the devices
 pub taken_book : (r : Recorded) (base : RecordingParser) → IsBase r base → IsRecording r → (n : ℕ)

@@ -11,14 +11,13 @@ use Rattle.recording_file.specs.Reading.{add_row, apply_parsed, parsed_cap, ende
 use Rattle.recording_file.specs.declared.recording_fault.RecordingFault.TheVariants as fault
 use Rattle.recording_file.specs.declared.recording_parser.RecordingParser.TheVariants as parser
 use Rattle.recording_file.specs.declared.parsed_row.ParsedRow.TheVariants as parsed
-use Rattle.recording_file.specs.Words.{RecordingWord, name_text}
+use Rattle.recording_file.specs.Words.{RecordingWord}
 use Rattle.recording_file.specs.declared.word.RecordingWord.TheVariants as word
 use Rattle.recording_file.specs.Counts.{counts_of}
 use Rattle.recording_file.specs.Names.{is_next_name}
 use Rattle.recording_file.specs.Caps.{is_next_cap}
 use Rattle.record_text.specs.Text.{Row, records_in}
-use Rattle.record_text.specs.Header.{is_header}
-use Rattle.recording_file.specs.Rows.{span_at, rounds_at, named_at, text_at, capped_at, most_at, request_at}
+use Rattle.recording_file.specs.Rows.{header_at, span_at, rounds_at, named_at, text_at, capped_at, most_at, request_at}
 use Rattle.record_text.specs.ConfigRows.{one_number, weight_at, adapter_at, device_at}
 use Rattle.recording_file.specs.Recordings.{Explains}
 use Rattle.record_text.specs.Steps.{◌>>=◌, taken}
@@ -71,13 +70,13 @@ parsed_fails n r word.Sim row = says_fails n (adapter_at row) parsed.Sim
 parsed_fails n r word.Dev row = says_fails n (device_at row) parsed.Dev
 parsed_fails n r word.Name row = bound IsOfText (in_record n (named_at (counts_of r.config) row)) _ (by_field n (named_at (counts_of r.config) row)) (λ k. by_test IsOfText (is_next_name r.names k.0 k.1) _ _ (says_fails n (text_at row) _) tt)
 parsed_fails n r word.Cap row = bound IsOfText (in_record n (capped_at r.rounds (counts_of r.config) row)) _ (by_field n (capped_at r.rounds (counts_of r.config) row)) (λ k. by_test IsOfText (is_next_cap r.caps k.0 k.1) _ _ (says_fails n (most_at r.rounds k.1 row) _) tt)
-parsed_fails n r word.Request row = says_fails n (request_at row) parsed.Request
+parsed_fails n r word.Request row = says_fails n (request_at r.completions row) parsed.Request
 
 add_fails : (n : ℕ) (s : RecordingParser) (x : ParsedRow) → FailsByText (apply_parsed n s x)
 unfolding apply_parsed
-add_fails n parser.First (parsed.Unit u) = tt
+add_fails n (parser.First v) (parsed.Unit u) = tt
 add_fails n _ (parsed.Unit u) = tt
-add_fails n parser.First (parsed.Rounds k) = tt
+add_fails n (parser.First v) (parsed.Rounds k) = tt
 add_fails n _ (parsed.Rounds k) = tt
 add_fails n s (parsed.Weight w) = row_more n s (row.Weight w)
 add_fails n s (parsed.Link k) = row_more n s (row.Link k)
@@ -93,7 +92,7 @@ row_fails n s row = bound IsOfText (ok_or (placed s row) (fault.BadRecord n)) _ 
 
 step_fails : (n : ℕ) (s : RecordingParser) (row : Row) → FailsByText (step n s row)
 unfolding step
-step_fails n parser.Header row = by_test IsOfText (is_header name_text row) (Ok parser.First) (Err fault.BadHeader) tt tt
+step_fails n parser.Header row = bound IsOfText (ok_or (header_at row) fault.BadHeader) _ (by_word IsOfText (header_at row) fault.BadHeader tt) (λ v. tt)
 step_fails n s row = row_fails n s row
 
 end_fails : (s : RecordingParser) → FailsByText (ended s)

@@ -1,5 +1,5 @@
 -- Each record of a recording is read as it was written, and is short.
-use Rattle.std.proofs.Common.{◌≡◌, ◌≤◌, ℕ, List, [], length, true, refl, arith, Option, Some, None, IfSome, decimal, codes, nat_le, nat_lt}
+use Rattle.std.proofs.Common.{◌≡◌, ◌≤◌, ℕ, List, [], length, Bool, true, false, refl, arith, Option, Some, None, IfSome, decimal, codes, nat_le, nat_lt}
 use Rattle.std.proofs.lemmas.Bool.{and_parts, leb-true, ltb-true}
 use Rattle.csv.specs.Writing.{escaped}
 use Rattle.recording_file.specs.Names.{NameValue, is_name, is_name_text, is_next_name, named_count, NameKind}
@@ -41,9 +41,10 @@ unfolding escaped
 part_in part.Device = omega arith
 part_in _ = omega arith
 
-pub good_header : IsGood 43 header
+pub good_header : (v : Bool) → IsGood 43 (header v)
 unfolding header_row escaped
-good_header = good_header_of name_text (omega arith) refl
+good_header true = good_header_of (name_text true) (omega arith) refl
+good_header false = good_header_of (name_text false) (omega arith) refl
 
 pub good_rounds : (n : ℕ) → n ≤ max_number → IsGood 44 (rounds_row n)
 unfolding escaped
@@ -91,8 +92,7 @@ good_cap rounds counts small few before c e =
     let z = nothing_in in
     (refl, eight (codes "cap") (part_text c.part.kind) (decimal c.part.number) (decimal c.first) (decimal c.last) (decimal c.most) [] [] 7 4 5 5 5 5 0 0 (word_in word.Cap) (part_in c.part.kind) (five c.part.number (omega arith)) (five c.first (omega arith)) (five c.last (omega arith)) (five c.most most) z z)
 
-pub good_request : (q : Request) → FitsRequest q → IsGood 88 (request_row q)
+pub good_request : (q : Request) → FitsRequest q → IsGood 98 (request_row q)
 good_request q h =
     let driver = h.driver in
-    let z = nothing_in in
-    (refl, eight (codes "request") (decimal q.driver) (decimal q.device) (decimal q.priority) (decimal q.arrival) (optional_text q.last) (decimal q.sent) [] 7 5 10 10 10 10 10 0 (word_in word.Request) (five q.driver (omega arith)) (ten q.device h.device) (ten q.priority h.priority) (ten q.arrival h.arrival) (optional_in q.last h.last) (ten q.sent h.sent) z)
+    (refl, eight (codes "request") (decimal q.driver) (decimal q.device) (decimal q.priority) (decimal q.arrival) (optional_text q.last) (decimal q.sent) (optional_text q.done) 7 5 10 10 10 10 10 10 (word_in word.Request) (five q.driver (omega arith)) (ten q.device h.device) (ten q.priority h.priority) (ten q.arrival h.arrival) (optional_in q.last h.last) (ten q.sent h.sent) (optional_in q.done h.done))

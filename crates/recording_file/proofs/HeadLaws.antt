@@ -21,8 +21,8 @@ use Rattle.recording_file.specs.Recorded.{Recorded, Span, IsRecording, MAX_RECOR
 use Rattle.recording_file.specs.Records.{rounds_row, unit_rows}
 use Rattle.recording_file.proofs.AgainLaws.{parsed_step}
 
-abbrev pub start_of : Option Span → ℕ → Start
-start_of unit rounds = record { unit = unit; rounds = rounds }
+abbrev pub start_of : Bool → Option Span → ℕ → Start
+start_of completions unit rounds = record { completions = completions; unit = unit; rounds = rounds }
 
 -- a recording has no row of a lane
 abbrev IsNoLane : ConfigRow → Type 0
@@ -63,19 +63,19 @@ have_all table r h =
 -- ---- the records before the names
 
 -- the unit and the rounds
-pub taken_start : (unit : Option Span) (rounds : ℕ) (rest : List Row) (u : RecordingParser) → IfSome unit (λ (s : Span). 1 ≤ s.count) → IfSome unit (λ (s : Span). s.count ≤ 4294967295) → 1 ≤ rounds → rounds ≤ MAX_RECORDED_ROUNDS
-    → ((m : ℕ) → taken step m (parser.Config (start_of unit rounds) standard_table) rest ≡ Ok u) → (n : ℕ) → taken step n parser.First (unit_rows unit ++ (rounds_row rounds ∷ rest)) ≡ Ok u
+pub taken_start : (v : Bool) (unit : Option Span) (rounds : ℕ) (rest : List Row) (u : RecordingParser) → IfSome unit (λ (s : Span). 1 ≤ s.count) → IfSome unit (λ (s : Span). s.count ≤ 4294967295) → 1 ≤ rounds → rounds ≤ MAX_RECORDED_ROUNDS
+    → ((m : ℕ) → taken step m (parser.Config (start_of v unit rounds) standard_table) rest ≡ Ok u) → (n : ℕ) → taken step n (parser.First v) (unit_rows unit ++ (rounds_row rounds ∷ rest)) ≡ Ok u
 unfolding apply_parsed stands
-taken_start None rounds rest u some few low high k n = rw (parsed_step n parser.First (parsed.Rounds rounds) (λ z. cc) tt refl (low, high)) (k (n + 1))
-taken_start (Some s) rounds rest u some few low high k n =
-    rw (parsed_step n parser.First (parsed.Unit s) (λ z. cc) tt refl (some, few), parsed_step (n + 1) (parser.Timed s) (parsed.Rounds rounds) (λ z. cc) tt refl (low, high)) (k (n + 1 + 1))
+taken_start v None rounds rest u some few low high k n = rw (parsed_step n (parser.First v) (parsed.Rounds rounds) (λ z. cc) tt refl (low, high)) (k (n + 1))
+taken_start v (Some s) rounds rest u some few low high k n =
+    rw (parsed_step n (parser.First v) (parsed.Unit s) (λ z. cc) tt refl (some, few), parsed_step (n + 1) (parser.Timed v s) (parsed.Rounds rounds) (λ z. cc) tt refl (low, high)) (k (n + 1 + 1))
 
 -- the parser after the devices
 abbrev pub base_of : Bool → Recorded → RecordingParser
-base_of table r = parser.Config (start_of r.unit r.rounds) (parsed_config table r.config)
+base_of table r = parser.Config (start_of r.completions r.unit r.rounds) (parsed_config table r.config)
 
 pub taken_config : (table : Bool) (r : Recorded) → IsRecording r → (table || are_standard r.config.weights) ≡ true → (rest : List Row) (u : RecordingParser) → ((m : ℕ) → taken step m (base_of table r) rest ≡ Ok u)
-    → (n : ℕ) → taken step n (parser.Config (start_of r.unit r.rounds) standard_table) (rows_then table r.config rest) ≡ Ok u
+    → (n : ℕ) → taken step n (parser.Config (start_of r.completions r.unit r.rounds) standard_table) (rows_then table r.config rest) ≡ Ok u
 taken_config table r h held rest u k n =
     let is : IsConfig r.config = record { kept = h.kept.head.config } in
-    taken_rows step (parser.Config (start_of r.unit r.rounds)) IsNoLane (takes_rows (start_of r.unit r.rounds)) true table r.config is held (have_all table r h) rest u k n
+    taken_rows step (parser.Config (start_of r.completions r.unit r.rounds)) IsNoLane (takes_rows (start_of r.completions r.unit r.rounds)) true table r.config is held (have_all table r h) rest u k n

@@ -4,6 +4,7 @@ use Rattle.record_text.specs.Front.{RefusesLong, max_fields}
 use Rattle.record_text.proofs.FrontLemmas.{not_eight}
 use Rattle.record_text.specs.Text.{Row}
 use Rattle.record_text.specs.Header.{is_header}
+use Rattle.recording_file.specs.Rows.{header_at}
 use Rattle.recording_file.specs.Reading.{BadHeader, BadRecord, RecordingFault, RecordingParser, placed, row_step, step}
 use Rattle.recording_file.specs.declared.recording_parser.RecordingParser.TheVariants as parser
 
@@ -16,10 +17,10 @@ unfolding row_step placed
 long_row n s row many = rw (not_eight row many) refl
 
 long_step : (n : ℕ) (s : RecordingParser) (row : Row) → max_fields < length row → step n s row ≡ Err (fault n s)
-unfolding step is_header fault
+unfolding step header_at is_header fault
 long_step n parser.Header row many = rw (not_eight row many) refl
-long_step n parser.First row many = long_row n parser.First row many
-long_step n (parser.Timed u) row many = long_row n (parser.Timed u) row many
+long_step n (parser.First v) row many = long_row n (parser.First v) row many
+long_step n (parser.Timed v u) row many = long_row n (parser.Timed v u) row many
 long_step n (parser.Config a c) row many = long_row n (parser.Config a c) row many
 long_step n (parser.Book r) row many = long_row n (parser.Book r) row many
 

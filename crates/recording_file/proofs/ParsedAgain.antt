@@ -1,10 +1,10 @@
 -- What is spelled as a record is parsed again.
 use Rattle.std.proofs.Common.{◌≡◌, ◌<◌, ◌≤◌, ℕ, true, refl, arith}
-use Rattle.std.specs.Prelude.{Ok, codes, nat_le, nat_lt, ⊤}
+use Rattle.std.specs.Prelude.{Bool, Ok, codes, nat_le, nat_lt, ⊤}
 use Rattle.std.proofs.lemmas.Bool.{and_parts, leb-true, ltb-true}
 use Rattle.csv.specs.Records.{field_at}
 use Rattle.recording_file.specs.Rows.{span_at, rounds_at, named_at, text_at, capped_at, most_at, request_at}
-use Rattle.recording_file.specs.Recorded.{Recorded, Request, Span, MAX_RECORDED_ROUNDS}
+use Rattle.recording_file.specs.Recorded.{Recorded, Request, Span, is_done_right, MAX_RECORDED_ROUNDS}
 use Rattle.recording_file.specs.Names.{NameValue, is_name, is_name_text, is_next_name, named_count, NameKind}
 use Rattle.recording_file.specs.declared.name.NameKind.TheVariants as named
 use Rattle.recording_file.specs.Caps.{Cap, is_cap, is_next_cap, part_count, PartKind}
@@ -15,7 +15,7 @@ use Rattle.record_text.specs.Fields.{max_number, unused_from}
 use Rattle.recording_file.specs.Counts.{Counts, counts_of}
 use Rattle.recording_file.specs.Records.{unit_row, rounds_row, name_row, cap_row, request_row, row_of_parsed, word_for, FitsParsed, FitsRequest}
 use Rattle.record_text.proofs.RowLaws.{adapter_again, device_again, one_again, weight_again}
-use Rattle.recording_file.proofs.FieldLaws.{time_again, named_again, part_again}
+use Rattle.recording_file.proofs.FieldLaws.{done_again, time_again, named_again, part_again}
 use Rattle.record_text.proofs.FieldLaws.{number_again, optional_again, within_again, below_again}
 
 -- the numbers of what there is fit a field
@@ -43,9 +43,9 @@ rounds_again : (n : ℕ) → 1 ≤ n → n ≤ MAX_RECORDED_ROUNDS → rounds_at
 unfolding rounds_at unused_from field_at
 rounds_again n a b = rw (within_again (rounds_row n) 1 1 MAX_RECORDED_ROUNDS n (omega arith) a b refl) refl
 
-request_again : (q : Request) → FitsRequest q → request_at (request_row q) ≡ Ok q
-unfolding request_at unused_from field_at
-request_again q h =
+request_again : (completions : Bool) (q : Request) → FitsRequest q → is_done_right completions q ≡ true → request_at completions (request_row q) ≡ Ok q
+unfolding request_at field_at
+request_again completions q h right =
     let row = request_row q in
     rw (
       number_again row 1 255 q.driver (omega arith) h.driver refl,
@@ -54,6 +54,7 @@ request_again q h =
       number_again row 4 max_number q.arrival (omega arith) h.arrival refl,
       optional_again row 5 max_number q.last (omega arith) h.last refl,
       number_again row 6 max_number q.sent (omega arith) h.sent refl,
+      done_again completions q.sent row q.done right h.done refl,
     ) refl
 
 kind_again : (c : Counts) (x : NameValue) → IsCounted c → x.number < named_count c x.kind → named_at c (name_row x) ≡ Ok (x.kind, x.number)
@@ -115,4 +116,4 @@ parsed_again n r (parsed.Sim a) h f = rw (adapter_again a f.0 f.1) refl
 parsed_again n r (parsed.Dev d) h f = rw (device_again d f) refl
 parsed_again n r (parsed.Name x) h f = name_again n r x h.0 f
 parsed_again n r (parsed.Cap x) h f = cap_again n r x h.0 h.1 f
-parsed_again n r (parsed.Request q) h f = rw (request_again q f) refl
+parsed_again n r (parsed.Request q) h f = rw (request_again r.completions q f.0 f.1) refl

@@ -1,7 +1,7 @@
 -- A parsed row is spelled as it was read, and a spelled one is parsed to itself.
-use Rattle.std.proofs.Common.{◌≡◌, ◌<◌, ◌≤◌, ℕ, subst, List, [], ◌∷◌, length, drop, replicate, true, refl, sym, ap, ◌∙◌, arith, le-leb, lt-ltb}
+use Rattle.std.proofs.Common.{◌≡◌, ◌<◌, ◌≤◌, ℕ, subst, List, [], ◌∷◌, length, drop, replicate, length-drop, true, refl, sym, ap, ◌∙◌, arith, le-leb, lt-ltb}
 use Rattle.std.specs.Prelude.{IfSome, Result, Ok, Err, codes, decimal, ⊤}
-use Rattle.recording_file.specs.Rows.{span_at, rounds_at, named_at, text_at, capped_at, most_at, request_at}
+use Rattle.recording_file.specs.Rows.{span_at, rounds_at, named_at, text_at, capped_at, most_at, done_at, request_at}
 use Rattle.record_text.specs.ConfigRows.{one_number, weight_at, adapter_at, device_at, optional_text}
 use Rattle.recording_file.specs.Recorded.{Recorded, Request, Span, MAX_RECORDED_ROUNDS}
 use Rattle.recording_file.specs.Names.{is_name, is_name_text, is_next_name, named_count, NameKind}
@@ -16,7 +16,8 @@ use Rattle.recording_file.specs.Caps.{Part, part_of, is_cap, is_next_cap, part_c
 use Rattle.recording_file.specs.Records.{row_of_parsed, word_for, FitsParsed}
 use Rattle.record_text.proofs.RowLaws.{adapter_takes, device_takes, next_field, next_number, no_more, one_takes, peel, unused_rest, weight_takes}
 use Rattle.record_text.proofs.StepLemmas.{if_ok, ok_is, on_ok}
-use Rattle.recording_file.proofs.FieldLaws.{time_spelled, named_spelled, part_spelled}
+use Rattle.std.proofs.lemmas.List.{nil_from_length}
+use Rattle.recording_file.proofs.FieldLaws.{FitsDone, done_takes, time_spelled, named_spelled, part_spelled}
 use Rattle.record_text.proofs.FieldLaws.{formed_takes, optional_takes, within_takes, below_takes}
 
 -- ---- the forms of each row
@@ -43,7 +44,7 @@ rounds_tells r row n eight e =
     next_field row 1 (within_at row 1 1 MAX_RECORDED_ROUNDS) _ n decimal (λ m. (1 ≤ m) × (m ≤ MAX_RECORDED_ROUNDS)) eight (omega arith) (λ m em. let t = within_takes row 1 1 MAX_RECORDED_ROUNDS m (omega arith) em in (t.0, (t.1, t.2))) e (λ m a t1 r1.
     no_more row 2 6 m n (λ v. Tells r row (parsed.Rounds v)) eight refl r1 (λ rest. (ap (λ (l : Row). spelled word.Rounds ∷ l) (t1 _ rest), a)))
 
-request_tells : (r : Recorded) (row : Row) (q : Request) → length row ≡ 8 → request_at row ≡ Ok q → Tells r row (parsed.Request q)
+request_tells : (r : Recorded) (row : Row) (q : Request) → length row ≡ 8 → request_at r.completions row ≡ Ok q → Tells r row (parsed.Request q)
 unfolding request_at
 request_tells r row q eight e =
     next_number row 1 255 _ q eight (omega arith) (omega arith) e (λ driver a t1 r1.
@@ -52,9 +53,11 @@ request_tells r row q eight e =
     next_number row 4 max_number _ q eight (omega arith) (omega arith) r3 (λ arrival d t4 r4.
     next_field row 5 (optional_at row 5 max_number) _ q optional_text (λ l. IfSome l (λ n. n ≤ max_number)) eight (omega arith) (λ l el. optional_takes row 5 max_number l (omega arith) el) r4 (λ last f t5 r5.
     next_number row 6 max_number _ q eight (omega arith) (omega arith) r5 (λ sent g t6 r6.
-    no_more row 7 1 _ q (λ v. Tells r row (parsed.Request v)) eight refl r6 (λ rest. (
-      ap (λ (l : Row). spelled word.Request ∷ l) (t1 _ (t2 _ (t3 _ (t4 _ (t5 _ (t6 _ rest)))))),
-      record { driver = a; device = b; priority = c; arrival = d; last = f; sent = g },
+    next_field row 7 (done_at r.completions sent row) _ q optional_text (FitsDone r.completions sent) eight (omega arith) (λ x ex. done_takes r.completions sent row x ex) r6 (λ done h t7 r7.
+    let rest = nil_from_length (drop 8 row) (omega (arith, length-drop 8 row)) in
+    subst (λ v. Tells r row (parsed.Request v)) (ok_is _ q r7) (
+      ap (λ (l : Row). spelled word.Request ∷ l) (t1 _ (t2 _ (t3 _ (t4 _ (t5 _ (t6 _ (t7 _ rest))))))),
+      (record { driver = a; device = b; priority = c; arrival = d; last = f; sent = g; done = h.0 }, h.1),
     ))))))))
 
 -- ---- names and caps
@@ -152,7 +155,7 @@ parsed_tells n r word.Sim row x eight le e = (say_word n (adapter_at row) parsed
 parsed_tells n r word.Dev row x eight le e = (say_word n (device_at row) parsed.Dev x word.Dev e (λ y. refl), say_takes r n row (device_at row) parsed.Dev x e (λ y ey. device_takes row y eight ey))
 parsed_tells n r word.Name row x eight le e = name_tells n r row x eight e
 parsed_tells n r word.Cap row x eight le e = cap_tells n r row x eight le e
-parsed_tells n r word.Request row x eight le e = (say_word n (request_at row) parsed.Request x word.Request e (λ y. refl), say_takes r n row (request_at row) parsed.Request x e (λ y ey. request_tells r row y eight ey))
+parsed_tells n r word.Request row x eight le e = (say_word n (request_at r.completions row) parsed.Request x word.Request e (λ y. refl), say_takes r n row (request_at r.completions row) parsed.Request x e (λ y ey. request_tells r row y eight ey))
 
 -- a record is its word's, and what it says fits
 pub parsed_takes : (n : ℕ) (r : Recorded) (w : RecordingWord) (row : Row) (x : ParsedRow) → length row ≡ 8 → field_of row 0 ≡ spelled w → r.rounds ≤ max_number → parsed_by n r w row ≡ Ok x

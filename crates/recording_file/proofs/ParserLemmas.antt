@@ -19,6 +19,7 @@ kept_begun start c head h few came =
       head = record { unit = head.unit; some = head.some; rounds = head.rounds; config = config_whole c h came; lanes = h.lanes (omega arith); names = refl; caps = refl };
       requests = refl;
       few = omega arith;
+      done = tt;
     }
 
 -- where a word stands, a row of its rank may come next

@@ -16,7 +16,7 @@ use Rattle.record_text.specs.Text.{Row}
 use Rattle.record_text.proofs.ConfigLaws.{row_ordered, row_taken}
 use Rattle.record_text.proofs.ListLemmas.{all_push}
 use Rattle.record_text.proofs.StepLemmas.{ok_is, on_ok}
-use Rattle.recording_file.specs.Recorded.{Recorded, Request, Span, IsKept, RequestFault}
+use Rattle.recording_file.specs.Recorded.{Recorded, Span, FitsFields, IsKept, RequestFault}
 use Rattle.recording_file.specs.Reading.{add_row, begun, in_config, recorded_of, unless_illegal, whole, BadConfig, RecordingParser, Start}
 use Rattle.recording_file.specs.declared.recording_parser.RecordingParser.TheVariants as parser
 use Rattle.recording_file.specs.Records.{header, records_of, unit_row}
@@ -27,8 +27,8 @@ use Rattle.recording_file.proofs.ParserLemmas.{kept_begun}
 -- the records that a parser has read, with rows of weights or without
 abbrev pub rows_at : Bool → RecordingParser → List Row
 rows_at table parser.Header = []
-rows_at table parser.First = header ∷ []
-rows_at table (parser.Timed u) = header ∷ unit_row u ∷ []
+rows_at table (parser.First v) = header v ∷ []
+rows_at table (parser.Timed v u) = header v ∷ unit_row u ∷ []
 rows_at table s = records_of table (recorded_of s)
 
 abbrev pub Held : Bool → Topology → Type 0
@@ -44,7 +44,7 @@ IsIn _ table = ⊤
 pub record IsRanged (r : Recorded) : Type 0 where
   pub unit : IfSome r.unit (λ (u : Span). u.count ≤ 4294967295)
   pub targets : AllByRecursion (λ (d : Device). d.target ≤ 65535) r.config.devices
-  pub drivers : AllByRecursion (λ (q : Request). q.driver ≤ 255) r.requests
+  pub fields : AllByRecursion FitsFields r.requests
 
 pub record Reads (s : RecordingParser) (rows : List Row) : Type 0 where
   pub table : Bool
@@ -113,7 +113,7 @@ reads_row n start c t r rows h place fits e =
     next_reads (pushed c r).table (parser.Config start (pushed c r)) t (spelled_row r) rows (ap (λ (x : ConfigParser). parser.Config start x) took.1 ∙ ok_is _ t k)
     (ap (λ (l : List Row). l ++ spelled_row r ∷ []) (h.spelled ∙ ap (λ (b : Bool). records_of b (begun start c.partial)) held.0) ∙ push_row start c r ordered place.0 place.1 took.0 lanes more)
     (refl, held_row c r (subst (λ (b : Bool). Held b c.partial) held.0 held.1)) (h.sound.0, next, omega arith)
-    (record { unit = h.ranged.unit; targets = more_targets c r fits h.ranged.targets; drivers = tt }))
+    (record { unit = h.ranged.unit; targets = more_targets c r fits h.ranged.targets; fields = tt }))
 
 -- ---- names, caps and requests
 

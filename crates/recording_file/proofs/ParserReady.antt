@@ -68,18 +68,18 @@ stands_at s word.Link e = e
 stands_at s word.Sim e = e
 stands_at s word.Dev e = e
 stands_at parser.Header word.Name e = absurd cc
-stands_at parser.First word.Name e = absurd cc
-stands_at (parser.Timed u) word.Name e = absurd cc
+stands_at (parser.First v) word.Name e = absurd cc
+stands_at (parser.Timed v u) word.Name e = absurd cc
 stands_at (parser.Book r) word.Name e = tt
 stands_at (parser.Config start c) word.Name e = open_booked start c
 stands_at parser.Header word.Cap e = absurd cc
-stands_at parser.First word.Cap e = absurd cc
-stands_at (parser.Timed u) word.Cap e = absurd cc
+stands_at (parser.First v) word.Cap e = absurd cc
+stands_at (parser.Timed v u) word.Cap e = absurd cc
 stands_at (parser.Book r) word.Cap e = (tt, no_requests r (and_parts (nat_le (book_rank r) 7) true e).0)
 stands_at (parser.Config start c) word.Cap e = (open_booked start c, ap (λ (r : Recorded). r.requests) (booked_recorded (parser.Config start c)))
 stands_at parser.Header word.Request e = absurd cc
-stands_at parser.First word.Request e = absurd cc
-stands_at (parser.Timed u) word.Request e = absurd cc
+stands_at (parser.First v) word.Request e = absurd cc
+stands_at (parser.Timed v u) word.Request e = absurd cc
 stands_at (parser.Book r) word.Request e = (tt, ltb-true _ _ (few_requests (nat_le (book_rank r) 8) (nat_lt (length r.requests) MAX_REQUESTS) e))
 stands_at (parser.Config start c) word.Request e = (open_booked start c, (let none : (recorded_of (booked (parser.Config start c))).requests ≡ [] = ap (λ (r : Recorded). r.requests) (booked_recorded (parser.Config start c)) in rw none (omega arith)))
 
@@ -124,7 +124,7 @@ booked_row n s word.Cap row e =
     ∙ (bind_bind (in_record n (capped_at r.rounds (counts_of r.config) row)) _ _
     ∙ same_after (in_record n (capped_at r.rounds (counts_of r.config) row)) _ _ (λ k. guard_same (is_next_cap r.caps k.0 k.1) _ (BadRecord n) _ _ (says_same n (most_at r.rounds k.1 row) _ _ _ (λ m. booked_cap n s _)))
     ∙ sym (bind_bind (in_record n (capped_at r.rounds (counts_of r.config) row)) _ _))
-booked_row n s word.Request row e = ap (λ (q : Recorded). parsed_by n q word.Request row >>= apply_parsed n (booked s)) (booked_recorded s) ∙ (says_same n (request_at row) _ _ _ (λ q. booked_request n s q))
+booked_row n s word.Request row e = ap (λ (q : Recorded). parsed_by n q word.Request row >>= apply_parsed n (booked s)) (booked_recorded s) ∙ (says_same n (request_at (recorded_of s).completions row) _ _ _ (λ q. booked_request n s q))
 booked_row n s _ row e = absurd cc
 
 pub ready_row : (n : ℕ) (s : RecordingParser) (w : RecordingWord) (row : Row) → take_word n (ready_for s w) w row ≡ take_word n s w row
@@ -139,8 +139,8 @@ ready_row n s w row = by (nat_lt (word_rank w) 6) refl
 pub rounds_small : (s : RecordingParser) → IsSound s → (recorded_of s).rounds ≤ max_number
 unfolding IsSound
 rounds_small parser.Header h = omega arith
-rounds_small parser.First h = omega arith
-rounds_small (parser.Timed u) h = omega arith
+rounds_small (parser.First v) h = omega arith
+rounds_small (parser.Timed v u) h = omega arith
 rounds_small (parser.Config start c) h = let k = h.0.rounds in omega arith
 rounds_small (parser.Book r) h = let k = h.head.rounds in omega arith
 

@@ -10,7 +10,8 @@ use Rattle.cam_types.specs.Questions.{names_device}
 use Rattle.cam_types.specs.declared.limits.TheConstants.{MAX_PRIORITY}
 use Rattle.cam_types.proofs.ConfigLemmas.{few_devices, few_adapters, few_links}
 use Rattle.cam_types.proofs.ListLemmas.{prefixed-push, first_answer-push}
-use Rattle.recording_file.specs.Recorded.{Recorded, Request, IsHead, IsKept, last_of, plain_cause, window_cause, crowd_cause, request_cause, MAX_REQUESTS, RequestFault, NoDevice, BadPriority, BadWindow, Early, Late}
+use Rattle.record_text.proofs.ListLemmas.{all_push}
+use Rattle.recording_file.specs.Recorded.{Recorded, Request, IsHead, IsKept, last_of, plain_cause, window_cause, crowd_cause, is_done_right, request_cause, MAX_REQUESTS, RequestFault, NoDevice, BadPriority, BadWindow, Early, Late}
 use Rattle.recording_file.specs.Caps.{Cap, is_cap, part_count, PartKind}
 use Rattle.recording_file.specs.declared.part.PartKind.TheVariants as kind
 use Rattle.recording_file.specs.Requests.{unless_cause, RequestError}
@@ -115,6 +116,7 @@ name_kept r cells name after b h e is =
         head = record { unit = head.unit; some = head.some; rounds = head.rounds; config = head.config; lanes = head.lanes; names = by b is; caps = head.caps };
         requests = h.kept.requests;
         few = h.kept.few;
+        done = h.kept.done;
       };
       table = record { none = h.table.none; room = h.table.room };
     }
@@ -133,6 +135,7 @@ cap_kept r cells none cap after b h e first cleared is =
         head = record { unit = head.unit; some = head.some; rounds = head.rounds; config = head.config; lanes = head.lanes; names = head.names; caps = by b is };
         requests = rw first refl;
         few = few;
+        done = h.kept.done;
       };
       table = rw cleared record { none = λ _. first; room = λ some. absurd (omega arith) };
     }
@@ -145,9 +148,9 @@ no_cause : (o : Option RequestFault) (t : ⊤) → unless_cause o ≡ Ok t → o
 no_cause None t e = refl
 no_cause (Some cause) t e = absurd cc
 
-pub request_kept : (r : Recorded) (cells : List ℕ) (q : Request) (after : List Request) → IsKept r → length r.requests < MAX_REQUESTS → request_cause r.rounds r.config r.caps (r.requests, q) ≡ None
+pub request_kept : (r : Recorded) (cells : List ℕ) (q : Request) (after : List Request) → IsKept r → length r.requests < MAX_REQUESTS → request_cause r.rounds r.config r.caps (r.requests, q) ≡ None → is_done_right r.completions q ≡ true
     → after ≡ r.requests ++ q ∷ [] → IsTable r.rounds r.config r.caps after cells → IsRecorder (record r { requests = after }) cells
-request_kept r cells q after h few none is table =
+request_kept r cells q after h few none right is table =
     let head = h.head in
     let size = length-append r.requests (q ∷ []) in
     record {
@@ -155,15 +158,16 @@ request_kept r cells q after h few none is table =
         head = record { unit = head.unit; some = head.some; rounds = head.rounds; config = head.config; lanes = head.lanes; names = head.names; caps = head.caps };
         requests = rw is (first_answer-push (request_cause r.rounds r.config r.caps) r.requests q h.requests none);
         few = rw is (omega arith);
+        done = rw is (all_push (λ (x : Request). is_done_right r.completions x ≡ true) r.requests q h.done right);
       };
       table = table;
     }
 
-pub placed_kept : (r : Recorded) (cells : List ℕ) (q : Request) (after : List Request) (memory : RequestError) (result : Result ⊤ RequestError) → IsKept r → length r.requests < MAX_REQUESTS
+pub placed_kept : (r : Recorded) (cells : List ℕ) (q : Request) (after : List Request) (memory : RequestError) (result : Result ⊤ RequestError) → IsKept r → length r.requests < MAX_REQUESTS → is_done_right r.completions q ≡ true
     → (result ≢ Err memory → result ≡ unless_cause (request_cause r.rounds r.config r.caps (r.requests, q))) → OnOk result (after ≡ r.requests ++ q ∷ []) → OnErr result (after ≡ r.requests)
     → IsTable r.rounds r.config r.caps after cells → IsRecorder (record r { requests = after }) cells
-placed_kept r cells q after memory (Ok t) h few answer ok err table = request_kept r cells q after h few (no_cause _ t (sym (answer (λ e. cc)))) ok table
-placed_kept r cells q after memory (Err e) h few answer ok err table = rw err record { kept = record { head = record { unit = h.head.unit; some = h.head.some; rounds = h.head.rounds; config = h.head.config; lanes = h.head.lanes; names = h.head.names; caps = h.head.caps }; requests = h.requests; few = h.few }; table = rw err at table }
+placed_kept r cells q after memory (Ok t) h few right answer ok err table = request_kept r cells q after h few (no_cause _ t (sym (answer (λ e. cc)))) right ok table
+placed_kept r cells q after memory (Err e) h few right answer ok err table = rw err record { kept = record { head = record { unit = h.head.unit; some = h.head.some; rounds = h.head.rounds; config = h.head.config; lanes = h.head.lanes; names = h.head.names; caps = h.head.caps }; requests = h.requests; few = h.few; done = h.done }; table = rw err at table }
 
 -- ---- the rules are kept with one item more
 
@@ -173,6 +177,7 @@ kept_name r name h e =
       head = record { unit = h.head.unit; some = h.head.some; rounds = h.head.rounds; config = h.head.config; lanes = h.head.lanes; names = all_prefixed (is_name (counts_of r.config)) r.names name h.head.names e; caps = h.head.caps };
       requests = h.requests;
       few = h.few;
+      done = h.done;
     }
 
 pub kept_cap : (r : Recorded) (cap : Cap) → IsKept r → is_cap r.rounds (counts_of r.config) (r.caps, cap) ≡ true → r.requests ≡ [] → IsKept (record r { caps = r.caps ++ cap ∷ [] })
@@ -181,15 +186,17 @@ kept_cap r cap h e first =
       head = record { unit = h.head.unit; some = h.head.some; rounds = h.head.rounds; config = h.head.config; lanes = h.head.lanes; names = h.head.names; caps = all_prefixed (is_cap r.rounds (counts_of r.config)) r.caps cap h.head.caps e };
       requests = rw first refl;
       few = h.few;
+      done = h.done;
     }
 
-pub kept_request : (r : Recorded) (q : Request) → IsKept r → length r.requests < MAX_REQUESTS → request_cause r.rounds r.config r.caps (r.requests, q) ≡ None → IsKept (record r { requests = r.requests ++ q ∷ [] })
-kept_request r q h few none =
+pub kept_request : (r : Recorded) (q : Request) → IsKept r → length r.requests < MAX_REQUESTS → request_cause r.rounds r.config r.caps (r.requests, q) ≡ None → is_done_right r.completions q ≡ true → IsKept (record r { requests = r.requests ++ q ∷ [] })
+kept_request r q h few none right =
     let size = length-append r.requests (q ∷ []) in
     record {
       head = record { unit = h.head.unit; some = h.head.some; rounds = h.head.rounds; config = h.head.config; lanes = h.head.lanes; names = h.head.names; caps = h.head.caps };
       requests = first_answer-push (request_cause r.rounds r.config r.caps) r.requests q h.requests none;
       few = omega arith;
+      done = all_push (λ (x : Request). is_done_right r.completions x ≡ true) r.requests q h.done right;
     }
 
 pub no_cause_where_ok : (o : Option RequestFault) (memory : RequestError) (result : Result ⊤ RequestError) (t : ⊤) → (result ≢ Err memory → result ≡ unless_cause o) → result ≡ Ok t → o ≡ None

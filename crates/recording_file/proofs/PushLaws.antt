@@ -15,12 +15,12 @@ use Rattle.recording_file.specs.Recorded.{Recorded, Request}
 use Rattle.recording_file.specs.Records.{cap_row, header, name_row, records_of, request_row, rounds_row, unit_rows, weight_rows}
 
 -- the same after the header, the unit and the rounds
-headed : (r : Recorded) (rest more : List Row) (x : Row) → rest ++ x ∷ [] ≡ more → (header ∷ (unit_rows r.unit ++ (rounds_row r.rounds ∷ rest))) ++ x ∷ [] ≡ header ∷ (unit_rows r.unit ++ (rounds_row r.rounds ∷ more))
+headed : (r : Recorded) (rest more : List Row) (x : Row) → rest ++ x ∷ [] ≡ more → (header r.completions ∷ (unit_rows r.unit ++ (rounds_row r.rounds ∷ rest))) ++ x ∷ [] ≡ header r.completions ∷ (unit_rows r.unit ++ (rounds_row r.rounds ∷ more))
 headed r rest more x e =
-    ap (λ (l : List Row). header ∷ l) (behind (unit_rows r.unit) (rounds_row r.rounds ∷ rest) (rounds_row r.rounds ∷ more) x (ap (λ (l : List Row). rounds_row r.rounds ∷ l) e))
+    ap (λ (l : List Row). header r.completions ∷ l) (behind (unit_rows r.unit) (rounds_row r.rounds ∷ rest) (rounds_row r.rounds ∷ more) x (ap (λ (l : List Row). rounds_row r.rounds ∷ l) e))
 
 -- the records of a configuration, which has no lane
-config_records : (table : Bool) (start : Start) (t : Topology) → t.lanes ≡ [] → records_of table (begun start t) ≡ header ∷ (unit_rows start.unit ++ (rounds_row start.rounds ∷ rows_then table t []))
+config_records : (table : Bool) (start : Start) (t : Topology) → t.lanes ≡ [] → records_of table (begun start t) ≡ header start.completions ∷ (unit_rows start.unit ++ (rounds_row start.rounds ∷ rows_then table t []))
 unfolding records_of
 config_records table start t lanes = rw lanes refl
 

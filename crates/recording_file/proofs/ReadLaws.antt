@@ -1,11 +1,11 @@
 -- What is read is spelled so.
-use Rattle.std.proofs.Common.{◌≡◌, ◌≤◌, ℕ, List, [], ◌∷◌, ◌++◌, length, Bool, true, false, cond, refl, sym, ap, ◌∙◌, subst, arith, Option, Some, None, Ok, Err, ok_or, option_and_then, ◌==◌, not, nat_le, nat_lt}
+use Rattle.std.proofs.Common.{◌≡◌, ℕ, List, [], ◌∷◌, ◌++◌, length, Bool, true, false, cond, refl, sym, ap, ◌∙◌, subst, arith, Option, Some, None, Ok, ok_or, option_and_then, ◌==◌, not, nat_le, nat_lt}
 use Rattle.std.proofs.lemmas.Bool.{and_parts, eqb-true, ltb-true}
 use Rattle.std.proofs.lemmas.List.{nil_from_length}
 use Rattle.record_text.proofs.ConfigLaws.{ordered_standard}
 use Rattle.record_text.specs.declared.config_row.ConfigRow.TheVariants as row
 use Rattle.recording_file.proofs.ParserLemmas.{may_take}
-use Rattle.recording_file.specs.Recorded.{Recorded, Request, has_items, MAX_REQUESTS}
+use Rattle.recording_file.specs.Recorded.{Recorded, Request, FitsFields, has_items, MAX_REQUESTS}
 use Rattle.recording_file.specs.Reading.{apply_parsed, add_name, add_cap, add_request, book_rank, ended, placed, reading, recorded_of, row_step, parsed_by, step, stands, whole, BadHeader, BadRecord, RecordingParser, ParsedRow}
 use Rattle.recording_file.specs.declared.recording_parser.RecordingParser.TheVariants as parser
 use Rattle.recording_file.specs.declared.parsed_row.ParsedRow.TheVariants as parsed
@@ -17,9 +17,10 @@ use Rattle.record_text.specs.Header.{is_header}
 use Rattle.recording_file.specs.Names.{NameValue}
 use Rattle.recording_file.specs.Caps.{Cap}
 use Rattle.recording_file.specs.Recordings.{WasRecording}
-use Rattle.recording_file.specs.Records.{cap_row, name_row, records_of, request_row, row_of_parsed, word_for, FitsParsed}
+use Rattle.recording_file.specs.Rows.{header_at}
+use Rattle.recording_file.specs.Records.{cap_row, header, name_row, records_of, request_row, row_of_parsed, word_for, FitsParsed}
 use Rattle.recording_file.specs.Sound.{IsSound}
-use Rattle.record_text.specs.Steps.{taken}
+use Rattle.record_text.specs.Steps.{◌>>=◌, taken}
 use Rattle.recording_file.specs.Whole.{IsLongWhole}
 use Rattle.recording_file.proofs.FieldLaws.{word_spelled}
 use Rattle.record_text.proofs.StepLemmas.{ok_or_ok, ok_is, on_ok, taken_keeps}
@@ -27,6 +28,7 @@ use Rattle.recording_file.proofs.PlacingLemmas.{kept_name, kept_cap, kept_reques
 use Rattle.recording_file.proofs.PushLaws.{push_name, push_cap, push_request}
 use Rattle.recording_file.proofs.ParsedLaws.{parsed_takes}
 use Rattle.record_text.proofs.RowLaws.{named_header}
+use Rattle.cam_types.proofs.LeastLemmas.{find_passes}
 use Rattle.recording_file.proofs.ParserReady.{rounds_small}
 use Rattle.recording_file.proofs.ParserReads.{Reads, lacks, next_reads, no_cause, reads_row, reads_whole, whole_ok}
 use Rattle.record_text.proofs.ListLemmas.{all_push}
@@ -83,7 +85,7 @@ reads_name n s t x rows h place fits e =
     let w = reads_whole s rows g.0 h in
     let bare = name_bare s g.0 place in
     next_reads w.table _ t (name_row x) rows (ok_is _ t k1) (ap (λ (l : List Row). l ++ name_row x ∷ []) w.spelled ∙ push_name w.table (recorded_of s) x bare.0 bare.1) w.held
-    (kept_name (recorded_of s) x w.kept fits) (record { unit = w.ranged.unit; targets = w.ranged.targets; drivers = w.ranged.drivers }))
+    (kept_name (recorded_of s) x w.kept fits) (record { unit = w.ranged.unit; targets = w.ranged.targets; fields = w.ranged.fields }))
 
 reads_cap : (n : ℕ) (s t : RecordingParser) (x : Cap) (rows : List Row) → Reads s rows → stands s word.Cap ≡ true → FitsParsed (recorded_of s) (parsed.Cap x) → add_cap n s x ≡ Ok t → Reads t (rows ++ cap_row x ∷ [])
 unfolding IsSound
@@ -94,7 +96,7 @@ reads_cap n s t x rows h place fits e =
     let w = reads_whole s rows g.0 h in
     let bare = cap_bare s g.0 place in
     next_reads w.table _ t (cap_row x) rows (ok_is _ t k1) (ap (λ (l : List Row). l ++ cap_row x ∷ []) w.spelled ∙ push_cap w.table (recorded_of s) x bare) w.held
-    (kept_cap (recorded_of s) x w.kept fits bare) (record { unit = w.ranged.unit; targets = w.ranged.targets; drivers = w.ranged.drivers }))
+    (kept_cap (recorded_of s) x w.kept fits bare) (record { unit = w.ranged.unit; targets = w.ranged.targets; fields = w.ranged.fields }))
 
 reads_request : (n : ℕ) (s t : RecordingParser) (q : Request) (rows : List Row) → Reads s rows → stands s word.Request ≡ true → FitsParsed (recorded_of s) (parsed.Request q) → add_request n s q ≡ Ok t → Reads t (rows ++ request_row q ∷ [])
 unfolding IsSound
@@ -106,20 +108,20 @@ reads_request n s t q rows h place fits e =
     let few = request_few s g.0 place in
     let f = no_cause n _ _ t k1 in
     next_reads w.table _ t (request_row q) rows f.1 (ap (λ (l : List Row). l ++ request_row q ∷ []) w.spelled ∙ push_request w.table (recorded_of s) q) w.held
-    (kept_request (recorded_of s) q w.kept (ltb-true _ _ few) f.0) (record { unit = w.ranged.unit; targets = w.ranged.targets; drivers = all_push (λ (x : Request). x.driver ≤ 255) (recorded_of s).requests q w.ranged.drivers fits.driver }))
+    (kept_request (recorded_of s) q w.kept (ltb-true _ _ few) f.0 fits.1) (record { unit = w.ranged.unit; targets = w.ranged.targets; fields = all_push FitsFields (recorded_of s).requests q w.ranged.fields (fits.0.driver, fits.0.done) }))
 
 -- ---- any record
 
 reads_parsed : (n : ℕ) (s t : RecordingParser) (x : ParsedRow) (rows : List Row) → Reads s rows → stands s (word_for x) ≡ true → FitsParsed (recorded_of s) x → apply_parsed n s x ≡ Ok t → Reads t (rows ++ row_of_parsed x ∷ [])
 unfolding apply_parsed IsSound records_of
-reads_parsed n parser.First t (parsed.Unit u) rows h place fits e = next_reads false _ t _ rows (ok_is _ t e) (rw h.spelled refl) tt fits.0 (record { unit = fits.1; targets = tt; drivers = tt })
+reads_parsed n (parser.First v) t (parsed.Unit u) rows h place fits e = next_reads false _ t _ rows (ok_is _ t e) (rw h.spelled refl) tt fits.0 (record { unit = fits.1; targets = tt; fields = tt })
 reads_parsed n _ t (parsed.Unit u) rows h place fits e = absurd cc
-reads_parsed n parser.First t (parsed.Rounds k) rows h place fits e =
+reads_parsed n (parser.First v) t (parsed.Rounds k) rows h place fits e =
     next_reads false _ t _ rows (ok_is _ t e) (rw h.spelled refl) (refl, refl)
-    (record { unit = tt; some = fits.0; rounds = fits.1 }, ordered_standard, omega arith) (record { unit = tt; targets = tt; drivers = tt })
-reads_parsed n (parser.Timed u) t (parsed.Rounds k) rows h place fits e =
+    (record { unit = tt; some = fits.0; rounds = fits.1 }, ordered_standard, omega arith) (record { unit = tt; targets = tt; fields = tt })
+reads_parsed n (parser.Timed v u) t (parsed.Rounds k) rows h place fits e =
     next_reads false _ t _ rows (ok_is _ t e) (rw h.spelled refl) (refl, refl)
-    (record { unit = h.sound; some = fits.0; rounds = fits.1 }, ordered_standard, omega arith) (record { unit = h.ranged.unit; targets = tt; drivers = tt })
+    (record { unit = h.sound; some = fits.0; rounds = fits.1 }, ordered_standard, omega arith) (record { unit = h.ranged.unit; targets = tt; fields = tt })
 reads_parsed n _ t (parsed.Rounds k) rows h place fits e = absurd cc
 reads_parsed n (parser.Config start c) t (parsed.Weight w) rows h place fits e = reads_row n start c t (row.Weight w) rows h (may_take (parser.Config start c) word.Weight (row.Weight w) place refl (omega arith)) tt e
 reads_parsed n _ t (parsed.Weight w) rows h place fits e = absurd cc
@@ -170,13 +172,17 @@ reads_after n s t row rows h e =
 
 -- ---- the header
 
+header_is : (row : Row) (v : Bool) → header_at row ≡ Some v → row ≡ header v
+unfolding header_at
+header_is row v e = named_header (name_text v) row (find_passes (λ (b : Bool). is_header (name_text b) row) (false ∷ true ∷ []) v e)
+
 step_reads : (n : ℕ) (s t : RecordingParser) (row : Row) (rows : List Row) → Reads s rows → step n s row ≡ Ok t → Reads t (rows ++ row ∷ [])
 unfolding step IsSound
-step_reads n parser.Header t row rows h e = by (is_header name_text row) refl e
+step_reads n parser.Header t row rows h e = by (header_at row) refl e
   where
-    by : (b : Bool) → is_header name_text row ≡ b → cond b (Ok parser.First) (Err BadHeader) ≡ Ok t → Reads t (rows ++ row ∷ [])
-    by true named k = next_reads false parser.First t row rows (ok_is _ t k) (rw (h.spelled, named_header name_text row named) refl) tt tt (record { unit = tt; targets = tt; drivers = tt })
-    by false named k = absurd cc
+    by : (o : Option Bool) → header_at row ≡ o → (ok_or o BadHeader >>= λ v. Ok (parser.First v)) ≡ Ok t → Reads t (rows ++ row ∷ [])
+    by (Some v) named k = next_reads false (parser.First v) t row rows (ok_is _ t k) (rw (h.spelled, header_is row v named) refl) tt tt (record { unit = tt; targets = tt; fields = tt })
+    by None named k = absurd cc
 step_reads n s t row rows h e = reads_after n s t row rows h e
 
 -- ---- the end
@@ -184,8 +190,8 @@ step_reads n s t row rows h e = reads_after n s t row rows h e
 ended_ok : (s : RecordingParser) (r : Recorded) → ended s ≡ Ok r → (lacks s ≡ false) × (recorded_of s ≡ r)
 unfolding ended
 ended_ok parser.Header r e = absurd cc
-ended_ok parser.First r e = absurd cc
-ended_ok (parser.Timed u) r e = absurd cc
+ended_ok (parser.First v) r e = absurd cc
+ended_ok (parser.Timed v u) r e = absurd cc
 ended_ok (parser.Config start c) r e = whole_ok _ (parser.Config start c) r e
 ended_ok (parser.Book q) r e = (refl, ok_is q r e)
 
@@ -193,7 +199,7 @@ pub was_recording : (before after : Option (List ℕ)) (text : List ℕ) → IsL
 unfolding reading IsSound
 was_recording before after text whole r e =
     on_ok (taken step 1 parser.Header (records_in text)) ended r e (λ t et k.
-    let start : Reads parser.Header [] = record { table = false; spelled = refl; held = tt; sound = tt; ranged = record { unit = tt; targets = tt; drivers = tt } } in
+    let start : Reads parser.Header [] = record { table = false; spelled = refl; held = tt; sound = tt; ranged = record { unit = tt; targets = tt; fields = tt } } in
     let h = taken_keeps step Reads step_reads 1 parser.Header t [] (records_in text) start et in
     let end = ended_ok t r k in
     let w = reads_whole t (records_in text) end.0 h in
@@ -201,6 +207,6 @@ was_recording before after text whole r e =
       text = text;
       whole = whole;
       spelled = record { bounded = whole.bounded; table = w.table; held = w.held; spelled = w.spelled };
-      recording = record { kept = w.kept; unit = w.ranged.unit; targets = w.ranged.targets; drivers = w.ranged.drivers };
+      recording = record { kept = w.kept; unit = w.ranged.unit; targets = w.ranged.targets; fields = w.ranged.fields };
     } in
     subst (WasRecording before after) end.1 made)

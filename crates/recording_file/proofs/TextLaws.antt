@@ -1,5 +1,5 @@
 -- The text of a recording's records is a text of the recording, and within its bound.
-use Rattle.std.proofs.Common.{◌≡◌, ◌≤◌, ◌+◌, ◌*◌, ℕ, [], length, map, true, refl, ap, ◌∙◌, arith, None}
+use Rattle.std.proofs.Common.{◌≡◌, ◌≤◌, ◌+◌, ◌*◌, ℕ, [], length, map, Bool, true, false, refl, ap, ◌∙◌, arith, None}
 use Rattle.csv.specs.Reading.{default_config, records, strip_bom}
 use Rattle.csv.specs.Writing.{escaped, fields_text, is_blank}
 use Rattle.cam_types.specs.Topology.{IsConfig, adapter_fault, device_fault, link_fault}
@@ -28,7 +28,7 @@ use Rattle.record_text.specs.Header.{header_row}
 
 -- so many bytes are together no more than a text may have
 within : (weights links adapters devices names caps requests rounds : ℕ) → weights ≤ 16 → links ≤ 4 → adapters ≤ 8 → devices ≤ 32 → names ≤ 300 → caps ≤ 44 * rounds → rounds ≤ 65535 → requests ≤ 1048576
-    → 43 + (54 + (44 + (weights * 54 + (links * 44 + (adapters * 54 + (devices * 74 + (names * 177 + (caps * 57 + requests * 88)))))))) ≤ MAX_RECORDING_BYTES
+    → 43 + (54 + (44 + (weights * 54 + (links * 44 + (adapters * 54 + (devices * 74 + (names * 177 + (caps * 57 + requests * 98)))))))) ≤ MAX_RECORDING_BYTES
 within weights links adapters devices names caps requests rounds w l a d n c r q = omega arith
 
 -- the records are read again, and together they aren't longer than a text may be
@@ -49,8 +49,8 @@ good_records r h =
     (along_both (λ b d. device_fault (length t.adapters) (b, d) ≡ None) (λ (d : Device). d.target ≤ 65535) [] t.devices (none_along (device_fault (length t.adapters)) [] t.devices (device_items t is)) h.targets) in
     let names = each_good (λ b x. is_name counts (b, x) ≡ true) name_row 177 [] r.names (good_name counts small) (true_along (is_name counts) [] r.names head.names) in
     let caps = each_good (λ b c. is_cap r.rounds counts (b, c) ≡ true) cap_row 57 [] r.caps (good_cap r.rounds counts small head.rounds) (true_along (is_cap r.rounds counts) [] r.caps head.caps) in
-    let requests = each_good (GoodRequest r) request_row 88 [] r.requests (λ b q p. good_request q p.0.1) (good_requests r h) in
-    let all = and_more 43 _ header _ good_header (both_good 54 _ (unit_rows r.unit) _ unit (and_more 44 _ (rounds_row r.rounds) _ rounds
+    let requests = each_good (GoodRequest r) request_row 98 [] r.requests (λ b q p. good_request q p.0.1.0) (good_requests r h) in
+    let all = and_more 43 _ (header r.completions) _ (good_header r.completions) (both_good 54 _ (unit_rows r.unit) _ unit (and_more 44 _ (rounds_row r.rounds) _ rounds
     (both_good _ _ (map weight_row t.weights) _ weights (both_good _ _ (map link_row t.links) _ links (both_good _ _ (map adapter_row t.adapters) _ adapters
     (both_good _ _ (map device_row t.devices) _ devices (both_good _ _ (map name_row r.names) _ names (both_good _ _ (map cap_row r.caps) (map request_row r.requests) caps requests)))))))) in
     weaker _ MAX_RECORDING_BYTES (records_of true r) (within (length t.weights) (length t.links) (length t.adapters) (length t.devices) (length r.names) (length r.caps) (length r.requests) r.rounds (few_weights t is) (few_links t is) (few_adapters t is) (few_devices t is) (few_names r head) (few_caps r head) head.rounds h.kept.few) all
@@ -58,12 +58,20 @@ good_records r h =
 -- the text begins with the header's word, and so with no byte order mark
 no_mark : (r : Recorded) → strip_bom (recording_text r) ≡ recording_text r
 unfolding strip_bom recording_text text_of records_of header_row fields_text escaped is_blank
-no_mark r = refl
+no_mark r = by r.completions refl
+  where
+    by : (v : Bool) → r.completions ≡ v → strip_bom (recording_text r) ≡ recording_text r
+    by true e = rw e refl
+    by false e = rw e refl
 
 -- and so it may have as many bytes as a recording
 bound : (r : Recorded) → max_bytes (recording_text r) ≡ MAX_RECORDING_BYTES
 unfolding max_bytes recording_text text_of records_of header_row fields_text escaped is_blank
-bound r = refl
+bound r = by r.completions refl
+  where
+    by : (v : Bool) → r.completions ≡ v → max_bytes (recording_text r) ≡ MAX_RECORDING_BYTES
+    by true e = rw e refl
+    by false e = rw e refl
 
 -- the text of a recording's records is a text of it
 pub is_text : (r : Recorded) → IsRecording r → IsRecordingText (recording_text r) r

@@ -10,7 +10,7 @@ use Rattle.record_text.specs.declared.config_parser.ConfigParser.{ConfigParser}
 use Rattle.record_text.specs.declared.config_row.ConfigRow.{ConfigRow}
 use Rattle.record_text.specs.declared.config_row.ConfigRow.TheVariants as row
 use Rattle.recording_file.specs.Recorded.{Recorded, Request, Span, has_items, request_cause, RequestFault, MAX_REQUESTS}
-use Rattle.recording_file.specs.Rows.{span_at, rounds_at, named_at, text_at, capped_at, most_at, request_at}
+use Rattle.recording_file.specs.Rows.{header_at, span_at, rounds_at, named_at, text_at, capped_at, most_at, request_at}
 use Rattle.record_text.specs.ConfigRows.{one_number, weight_at, adapter_at, device_at}
 pub use Rattle.recording_file.specs.declared.recording_fault.RecordingFault.{RecordingFault}
 pub use Rattle.recording_file.specs.declared.recording_fault.RecordingFault.TheVariants.{BadHeader, BadRecord, BadField, BadConfig, Illegal, OutOfMemory}
@@ -19,12 +19,11 @@ use Rattle.recording_file.specs.declared.recording_parser.RecordingParser.TheVar
 pub use Rattle.recording_file.specs.declared.parsed_row.ParsedRow.{ParsedRow}
 use Rattle.recording_file.specs.declared.parsed_row.ParsedRow.TheVariants as parsed
 pub use Rattle.recording_file.specs.declared.preamble.Start.{Start}
-use Rattle.recording_file.specs.Words.{word_of, word_rank, RecordingWord, name_text}
+use Rattle.recording_file.specs.Words.{word_of, word_rank, RecordingWord}
 use Rattle.recording_file.specs.declared.word.RecordingWord.TheVariants as word
 use Rattle.record_text.specs.Steps.{◌>>=◌, taken}
 use Rattle.record_text.specs.Text.{Row}
 use Rattle.record_text.specs.Fields.{field_of}
-use Rattle.record_text.specs.Header.{is_header}
 use Rattle.recording_file.specs.Counts.{counts_of}
 use Rattle.recording_file.specs.Names.{NameValue, is_next_name}
 use Rattle.recording_file.specs.Caps.{Cap, is_next_cap}
@@ -47,8 +46,8 @@ has_place _ w = true
 -- Records stand in the order of their words. But where an adapter is due, any word after the rounds has a place.
 unfoldable pub stands : RecordingParser → RecordingWord → Bool
 stands parser.Header w = false
-stands parser.First w = nat_le (word_rank w) 1
-stands (parser.Timed u) w = word_rank w == 1
+stands (parser.First v) w = nat_le (word_rank w) 1
+stands (parser.Timed v u) w = word_rank w == 1
 stands s w = nat_le (rank_of s) (word_rank w) && has_place s w
 
 -- the word of a record of eight fields, where it stands in its place
@@ -58,16 +57,17 @@ placed s row =
 
 -- what is recorded where a configuration has come
 abbrev pub begun : Start → Topology → Recorded
-begun start t = record { unit = start.unit; rounds = start.rounds; config = t; names = []; caps = []; requests = [] }
+begun start t = record { unit = start.unit; rounds = start.rounds; config = t; names = []; caps = []; requests = []; completions = start.completions }
 
 abbrev pub nothing : Recorded
-nothing = record { unit = None; rounds = 0; config = record { weights = standard_weights; links = []; adapters = []; devices = []; lanes = [] }; names = []; caps = []; requests = [] }
+nothing = record { unit = None; rounds = 0; config = record { weights = standard_weights; links = []; adapters = []; devices = []; lanes = [] }; names = []; caps = []; requests = []; completions = false }
 
 -- what is recorded so far
 abbrev pub recorded_of : RecordingParser → Recorded
 recorded_of (parser.Config start c) = begun start c.partial
 recorded_of (parser.Book r) = r
-recorded_of (parser.Timed u) = record nothing { unit = Some u }
+recorded_of (parser.Timed v u) = record nothing { unit = Some u; completions = v }
+recorded_of (parser.First v) = record nothing { completions = v }
 recorded_of _ = nothing
 
 -- a field without its form is a fault of the record
@@ -101,7 +101,7 @@ parsed_by n r word.Sim row = says n (adapter_at row) parsed.Sim
 parsed_by n r word.Dev row = says n (device_at row) parsed.Dev
 parsed_by n r word.Name row = parsed_name n r row
 parsed_by n r word.Cap row = parsed_cap n r row
-parsed_by n r word.Request row = says n (request_at row) parsed.Request
+parsed_by n r word.Request row = says n (request_at r.completions row) parsed.Request
 
 -- a rule of the configuration that is broken is a fault of the record
 abbrev pub in_config : {X : Type 0} → ℕ → Result X ConfigError → Result X RecordingFault
@@ -139,13 +139,13 @@ add_request n s q = whole n s >>= λ r. unless_illegal n (request_cause r.rounds
 
 -- how long a round is
 abbrev pub add_unit : ℕ → RecordingParser → Span → Result RecordingParser RecordingFault
-add_unit n parser.First u = Ok (parser.Timed u)
+add_unit n (parser.First v) u = Ok (parser.Timed v u)
 add_unit n s u = Err (BadRecord n)
 
 -- the rounds: after them stand the standard weights, unless rows of weights come
 abbrev pub add_rounds : ℕ → RecordingParser → ℕ → Result RecordingParser RecordingFault
-add_rounds n parser.First rounds = Ok (parser.Config (record { unit = None; rounds = rounds }) standard_table)
-add_rounds n (parser.Timed u) rounds = Ok (parser.Config (record { unit = Some u; rounds = rounds }) standard_table)
+add_rounds n (parser.First v) rounds = Ok (parser.Config (record { completions = v; unit = None; rounds = rounds }) standard_table)
+add_rounds n (parser.Timed v u) rounds = Ok (parser.Config (record { completions = v; unit = Some u; rounds = rounds }) standard_table)
 add_rounds n s rounds = Err (BadRecord n)
 
 -- a parsed row is applied
@@ -170,14 +170,14 @@ row_step n s row = ok_or (placed s row) (BadRecord n) >>= λ w. take_word n s w 
 
 -- the record of this number
 unfoldable pub step : ℕ → RecordingParser → Row → Result RecordingParser RecordingFault
-step n parser.Header row = if is_header name_text row then Ok parser.First else Err BadHeader
+step n parser.Header row = ok_or (header_at row) BadHeader >>= λ v. Ok (parser.First v)
 step n s row = row_step n s row
 
 -- the end of the records: the record that is due is named
 unfoldable pub ended : RecordingParser → Result Recorded RecordingFault
 ended parser.Header = Err BadHeader
-ended parser.First = Err (BadRecord 2)
-ended (parser.Timed u) = Err (BadRecord 3)
+ended (parser.First v) = Err (BadRecord 2)
+ended (parser.Timed v u) = Err (BadRecord 3)
 ended (parser.Config start c) = whole_of (3 + option_map_or (λ (u : Span). 1) start.unit 0 + rows_before c) start c
 ended (parser.Book r) = Ok r
 

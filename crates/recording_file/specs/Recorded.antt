@@ -21,7 +21,8 @@ use Rattle.recording_file.specs.Names.{NameValue, is_name}
 abbrev pub has_items : {X : Type 0} → List X → Bool
 has_items xs = not (length xs == 0)
 
--- how long a round is, if that is known, the last round, what there is, names, caps, and the requests in their order
+-- how long a round is, if that is known, the last round, what there is, names, caps, the requests in their order, and whether
+-- completions are recorded too, where they are known
 pub record Recorded : Type 0 where
   pub unit : Option Span
   pub rounds : ℕ
@@ -29,6 +30,7 @@ pub record Recorded : Type 0 where
   pub names : List NameValue
   pub caps : List Cap
   pub requests : List Request
+  pub completions : Bool
 
 -- a device's requests take of a part: of the device itself, of its adapter and of that one's link
 abbrev pub takes_of : Topology → Part → ℕ → Bool
@@ -89,6 +91,10 @@ plain_cause rounds c q =
 unfoldable pub request_cause : ℕ → Topology → List Cap → List Request × Request → Option RequestFault
 request_cause rounds c caps m = option_or (plain_cause rounds c m.1) (crowd_cause c caps m.0 m.1)
 
+-- what is recorded of a request's completion is right: it is none, or it isn't before the start, where completions are recorded
+abbrev pub is_done_right : Bool → Request → Bool
+is_done_right completions q = option_map_or (λ n. completions && nat_le q.sent n) q.done true
+
 -- rules that a recording's head keeps: how long a round is, how many rounds, what there is, names and caps
 pub record IsHead (r : Recorded) : Type 0 where
   pub unit : IfSome r.unit (λ (u : Span). 1 ≤ u.count)
@@ -104,10 +110,15 @@ pub record IsKept (r : Recorded) : Type 0 where
   pub head : IsHead r
   pub requests : first_answer (request_cause r.rounds r.config r.caps) (prefixed r.requests) ≡ None
   pub few : length r.requests ≤ MAX_REQUESTS
+  pub done : AllByRecursion (λ (q : Request). is_done_right r.completions q ≡ true) r.requests
+
+-- a request's driver and the round of its completion fit their fields
+abbrev pub FitsFields : Request → Type 0
+FitsFields q = (q.driver ≤ 255) × IfSome q.done (λ n. n ≤ 4294967295)
 
 -- a recording: the rules are kept, and its numbers fit their fields
 pub record IsRecording (r : Recorded) : Type 0 where
   pub kept : IsKept r
   pub unit : IfSome r.unit (λ (u : Span). u.count ≤ 4294967295)
   pub targets : AllByRecursion (λ (d : Device). d.target ≤ 65535) r.config.devices
-  pub drivers : AllByRecursion (λ (q : Request). q.driver ≤ 255) r.requests
+  pub fields : AllByRecursion FitsFields r.requests

@@ -1,7 +1,7 @@
 -- The records of a recording.
 use Rattle.std.specs.Prelude.{◌≡◌, ◌≤◌, ℕ, Bool, true, if◌then◌else◌, List, [], ◌∷◌, ◌++◌, map, Option, Some, None, IfSome, decimal}
 use Rattle.cam_types.specs.declared.weight_row.WeightRow.{WeightRow}
-use Rattle.recording_file.specs.Recorded.{Recorded, Request, Span, MAX_RECORDED_ROUNDS}
+use Rattle.recording_file.specs.Recorded.{Recorded, Request, Span, is_done_right, MAX_RECORDED_ROUNDS}
 use Rattle.recording_file.specs.Reading.{ParsedRow}
 use Rattle.recording_file.specs.declared.parsed_row.ParsedRow.TheVariants as parsed
 use Rattle.recording_file.specs.Words.{spelled, time_text, named_text, part_text, RecordingWord, name_text}
@@ -14,8 +14,8 @@ use Rattle.recording_file.specs.Caps.{Cap, is_cap}
 use Rattle.record_text.specs.ConfigRows.{device_of, adapter_row, device_row, link_row, optional_text, padded, weight_row}
 use Rattle.record_text.specs.Header.{header_row}
 
-abbrev pub header : Row
-header = header_row name_text
+abbrev pub header : Bool → Row
+header completions = header_row (name_text completions)
 
 abbrev pub unit_row : Span → Row
 unit_row u = padded (spelled word.Unit ∷ decimal u.count ∷ time_text u.unit ∷ [])
@@ -30,7 +30,7 @@ abbrev pub cap_row : Cap → Row
 cap_row c = padded (spelled word.Cap ∷ part_text c.part.kind ∷ decimal c.part.number ∷ decimal c.first ∷ decimal c.last ∷ decimal c.most ∷ [])
 
 abbrev pub request_row : Request → Row
-request_row q = padded (spelled word.Request ∷ decimal q.driver ∷ decimal q.device ∷ decimal q.priority ∷ decimal q.arrival ∷ optional_text q.last ∷ decimal q.sent ∷ [])
+request_row q = padded (spelled word.Request ∷ decimal q.driver ∷ decimal q.device ∷ decimal q.priority ∷ decimal q.arrival ∷ optional_text q.last ∷ decimal q.sent ∷ optional_text q.done ∷ [])
 
 abbrev pub unit_rows : Option Span → List Row
 unit_rows None = []
@@ -43,7 +43,7 @@ weight_rows table weights = if table then map weight_row weights else []
 -- the header, how long a round is, the rounds, and a record for each weight, link, adapter, device, name, cap and request
 unfoldable pub records_of : Bool → Recorded → List Row
 records_of table r =
-    header ∷ (unit_rows r.unit ++ (rounds_row r.rounds ∷ (weight_rows table r.config.weights ++ (map link_row r.config.links
+    header r.completions ∷ (unit_rows r.unit ++ (rounds_row r.rounds ∷ (weight_rows table r.config.weights ++ (map link_row r.config.links
     ++ (map adapter_row r.config.adapters ++ (map device_row r.config.devices ++ (map name_row r.names ++ (map cap_row r.caps ++ map request_row r.requests))))))))
 
 -- the record that says this
@@ -77,6 +77,7 @@ pub record FitsRequest (q : Request) : Type 0 where
   pub arrival : q.arrival ≤ max_number
   pub last : IfSome q.last (λ n. n ≤ max_number)
   pub sent : q.sent ≤ max_number
+  pub done : IfSome q.done (λ n. n ≤ max_number)
 
 -- a parsed row fits its fields, beside what is recorded
 abbrev pub FitsParsed : Recorded → ParsedRow → Type 0
@@ -88,4 +89,4 @@ FitsParsed r (parsed.Sim a) = (a.openings ≤ max_number) × IfSome a.link (λ n
 FitsParsed r (parsed.Dev d) = (d.bus ≤ max_number) × (d.target ≤ 65535) × (d.lun ≤ 16383) × (d.openings ≤ max_number)
 FitsParsed r (parsed.Name x) = is_name (counts_of r.config) (r.names, x) ≡ true
 FitsParsed r (parsed.Cap c) = is_cap r.rounds (counts_of r.config) (r.caps, c) ≡ true
-FitsParsed r (parsed.Request q) = FitsRequest q
+FitsParsed r (parsed.Request q) = FitsRequest q × (is_done_right r.completions q ≡ true)

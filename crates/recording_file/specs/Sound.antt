@@ -13,7 +13,7 @@ pub record IsStart (start : Start) : Type 0 where
 
 -- what holds at a parser: a configuration has no lane
 unfoldable pub IsSound : RecordingParser → Type 0
-IsSound (parser.Timed u) = 1 ≤ u.count
+IsSound (parser.Timed v u) = 1 ≤ u.count
 IsSound (parser.Config start c) = IsStart start × IsOrdered c × (c.rank ≤ 3)
 IsSound (parser.Book r) = IsKept r
 IsSound _ = ⊤

@@ -1,5 +1,5 @@
 -- The words of a recording's records, and those of its fields.
-use Rattle.std.specs.Prelude.{ℕ, List, [], ◌∷◌, Option, codes, bytes_eq, find}
+use Rattle.std.specs.Prelude.{ℕ, Bool, true, false, List, [], ◌∷◌, Option, codes, bytes_eq, find}
 pub use Rattle.recording_file.specs.declared.word.RecordingWord.{RecordingWord}
 use Rattle.recording_file.specs.declared.word.RecordingWord.TheVariants as word
 use Rattle.recording_file.specs.Names.{NameKind}
@@ -9,9 +9,10 @@ use Rattle.recording_file.specs.declared.part.PartKind.TheVariants as part
 pub use Rattle.recording_file.specs.declared.span.TimeUnit.{TimeUnit}
 use Rattle.recording_file.specs.declared.span.TimeUnit.TheVariants as time
 
--- the word that a recording begins with
-abbrev pub name_text : List ℕ
-name_text = codes "camrecord1"
+-- the word that a recording begins with, by its version: one with completions or one without
+abbrev pub name_text : Bool → List ℕ
+name_text false = codes "camrecord1"
+name_text true = codes "camrecord2"
 
 -- how a word is spelled
 abbrev pub spelled : RecordingWord → List ℕ

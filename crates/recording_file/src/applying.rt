@@ -6,7 +6,7 @@ ghost use Rattle.recording_file.specs.Names.{is_name};
 ghost use Rattle.recording_file.specs.Caps.{is_cap};
 ghost use Rattle.recording_file.specs.Counts.{counts_of};
 ghost use Rattle.recording_file.specs.Reading.{add_unit, add_rounds, add_row, apply_parsed, ended, recorded_of, unless_illegal, whole};
-ghost use Rattle.recording_file.specs.Recorded.{IsKept, Span, request_cause, MAX_RECORDED_ROUNDS, MAX_REQUESTS};
+ghost use Rattle.recording_file.specs.Recorded.{IsKept, Span, is_done_right, request_cause, MAX_RECORDED_ROUNDS, MAX_REQUESTS};
 ghost use Rattle.recording_file.specs.Records.{FitsParsed, word_for};
 ghost use Rattle.recording_file.specs.RowParsing.{IsAt, IsOpen, booked};
 ghost use Rattle.recording_file.specs.Sound.{IsSound, MayTake};
@@ -35,7 +35,7 @@ impl RecordingParser {
         ensures sound { IfOk result (λ s. IsSound s) }
     {
         match self {
-            RecordingParser::First => Ok(RecordingParser::Timed(unit)),
+            RecordingParser::First(completions) => Ok(RecordingParser::Timed(completions, unit)),
             _ => Err(RecordingFault::BadRecord(number)),
         }
     }
@@ -54,8 +54,12 @@ impl RecordingParser {
         ensures sound { IfOk result (λ s. IsSound s) }
     {
         match self {
-            RecordingParser::First => standard(alloc, start_of(None, rounds)),
-            RecordingParser::Timed(unit) => standard(alloc, start_of(Some(unit), rounds)),
+            RecordingParser::First(completions) => {
+                standard(alloc, start_of(completions, None, rounds))
+            }
+            RecordingParser::Timed(completions, unit) => {
+                standard(alloc, start_of(completions, Some(unit), rounds))
+            }
             _ => Err(RecordingFault::BadRecord(number)),
         }
     }
@@ -158,8 +162,8 @@ impl RecordingParser {
     {
         match self {
             RecordingParser::Header => Err(RecordingFault::BadHeader),
-            RecordingParser::First => Err(RecordingFault::BadRecord(2)),
-            RecordingParser::Timed(_) => Err(RecordingFault::BadRecord(3)),
+            RecordingParser::First(_) => Err(RecordingFault::BadRecord(2)),
+            RecordingParser::Timed(..) => Err(RecordingFault::BadRecord(3)),
             RecordingParser::Config(start, parser) => {
                 let unit = if start.unit.is_some() { 1 } else { 0 };
                 let number = 3 + unit + parser.rows_before();
@@ -173,10 +177,14 @@ impl RecordingParser {
     }
 }
 
-fn start_of(unit: Option<Span>, rounds: u32) -> Start
-    ensures { result ≡ record { unit = unit; rounds = rounds } }
+fn start_of(completions: bool, unit: Option<Span>, rounds: u32) -> Start
+    ensures { result ≡ record { completions = completions; unit = unit; rounds = rounds } }
 {
-    Start { unit, rounds }
+    Start {
+        completions,
+        unit,
+        rounds,
+    }
 }
 
 fn with_name(mut recorder: Recorder, name: Name) -> Result<RecordingParser, RecordingFault>
@@ -212,6 +220,7 @@ fn with_request(
 ) -> Result<RecordingParser, RecordingFault>
     requires kept { IsKept recorder }
     requires few { length recorder.requests < MAX_REQUESTS }
+    requires done { is_done_right recorder.completions request ≡ true }
     ensures value { result ≢ Err RecordingFault.OutOfMemory → result ≡ unless_illegal number (request_cause recorder.rounds recorder.config recorder.caps (recorder.requests, request)) (RecordingParser.Book (record recorder { requests = recorder.requests ++ request ∷ [] })) }
     ensures sound { IfOk result (λ s. IsSound s) }
 {

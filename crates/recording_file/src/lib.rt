@@ -49,6 +49,7 @@ mod row_parsing;
 mod rows;
 mod span;
 mod stepping;
+mod version;
 mod whole;
 mod word;
 mod writing;

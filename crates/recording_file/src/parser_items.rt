@@ -40,7 +40,7 @@ pub(crate) fn whole_of(
     ensures kept { IfOk result IsKept }
 {
     match parser.finish() {
-        Ok(config) => Ok(Recorder::new(alloc, start.unit, start.rounds, config)),
+        Ok(config) => Ok(Recorder::new(alloc, start.unit, start.rounds, config, start.completions)),
         Err(fault) => Err(RecordingFault::BadConfig(number, fault)),
     }
 }

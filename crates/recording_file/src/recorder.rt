@@ -5,7 +5,7 @@ ghost use Rattle.cam_types.specs.Topology.{IsConfig};
 ghost use Rattle.recording_file.specs.Caps.{is_cap, is_next_cap};
 ghost use Rattle.recording_file.specs.Counts.{counts_of};
 ghost use Rattle.recording_file.specs.Names.{is_name, is_next_name};
-ghost use Rattle.recording_file.specs.Recorded.{Span, IsKept, request_cause, has_items, MAX_RECORDED_ROUNDS, MAX_REQUESTS};
+ghost use Rattle.recording_file.specs.Recorded.{Span, IsKept, is_done_right, request_cause, has_items, MAX_RECORDED_ROUNDS, MAX_REQUESTS};
 ghost use Rattle.recording_file.specs.Requests.{unless_cause, OutOfMemory};
 
 use crate::cap::Cap;
@@ -32,6 +32,7 @@ pub struct Recorder {
     names: Vec<Name>,
     caps: Vec<Cap>,
     requests: Vec<Request>,
+    completions: bool,
     // How many requests more each device, adapter and link could take in each round. It has no cell before the first request.
     room: Vec<u32>,
 }
@@ -42,20 +43,27 @@ impl Model for Recorder {
 
     ghost Value = { Recorded };
 
-    ghost view = { λ r. record { unit = r.unit; rounds = r.rounds; config = r.config; names = r.names.items; caps = r.caps.items; requests = r.requests.items } };
+    ghost view = { λ r. record { unit = r.unit; rounds = r.rounds; config = r.config; names = r.names.items; caps = r.caps.items; requests = r.requests.items; completions = r.completions } };
 
-    ghost invariant = { λ r. IsRecorder (record { unit = r.unit; rounds = r.rounds; config = r.config; names = r.names.items; caps = r.caps.items; requests = r.requests.items }) r.room.items };
+    ghost invariant = { λ r. IsRecorder (record { unit = r.unit; rounds = r.rounds; config = r.config; names = r.names.items; caps = r.caps.items; requests = r.requests.items; completions = r.completions }) r.room.items };
 }
 
 impl Recorder {
-    /// A recording of these rounds without names, caps and requests.
-    pub fn new(alloc: Global, unit: Option<Span>, rounds: u32, config: Config) -> Recorder
+    /// A recording of these rounds without names, caps and requests. With `completions` it can say when a request was
+    /// completed.
+    pub fn new(
+        alloc: Global,
+        unit: Option<Span>,
+        rounds: u32,
+        config: Config,
+        completions: bool,
+    ) -> Recorder
         requires unit { IfSome unit (λ (u : Span). 1 ≤ u.count) }
         requires some { 1 ≤ rounds }
         requires few { rounds ≤ MAX_RECORDED_ROUNDS }
         requires kept { IsConfig config }
         requires lanes { config.lanes ≡ [] }
-        ensures { result ≡ record { unit = unit; rounds = rounds; config = config; names = []; caps = []; requests = [] } }
+        ensures { result ≡ record { unit = unit; rounds = rounds; config = config; names = []; caps = []; requests = []; completions = completions } }
     {
         Recorder {
             unit,
@@ -64,6 +72,7 @@ impl Recorder {
             names: Vec::new(alloc),
             caps: Vec::new(alloc),
             requests: Vec::new(alloc),
+            completions,
             room: Vec::new(alloc),
         }
     }
@@ -74,6 +83,13 @@ impl Recorder {
         ensures kept { IsKept self.now }
     {
         self.rounds
+    }
+
+    /// Whether it can say when a request was completed.
+    pub fn completions(&self) -> bool
+        ensures { result ≡ self.now.completions }
+    {
+        self.completions
     }
 
     pub(crate) fn counts(&self) -> Counts
@@ -173,14 +189,26 @@ impl Recorder {
         }
     }
 
-    /// Adds a request. Refused, the recording is as it was.
+    /// Whether a request's completion may be recorded: it has none, or it isn't before its start, where completions are recorded.
+    pub fn takes_done(&self, request: Request) -> bool
+        ensures { result ≡ is_done_right self.now.completions request }
+    {
+        match request.done {
+            Some(done) => self.completions && request.sent <= done,
+            None => true,
+        }
+    }
+
+    /// Adds a request, whose completion, if it has one, isn't before its start, where completions are recorded. Refused, the
+    /// recording is as it was.
     ///
     /// # Errors
     ///
     /// `Illegal` with the first cause that it can't be one of the recording, beside the requests before it. `OutOfMemory` if no
     /// memory is left.
     pub fn add_request(&mut self, alloc: Global, request: Request) -> Result<(), RequestError>
-        requires { length self.old.requests < MAX_REQUESTS }
+        requires few { length self.old.requests < MAX_REQUESTS }
+        requires done { is_done_right self.old.completions request ≡ true }
         ensures answer { result ≢ Err OutOfMemory → result ≡ unless_cause (request_cause self.old.rounds self.old.config self.old.caps (self.old.requests, request)) }
         ensures ok { OnOk result (self.new ≡ record self.old { requests = self.old.requests ++ request ∷ [] }) }
         ensures err { OnErr result (self.new ≡ self.old) }
@@ -208,6 +236,7 @@ impl Recorder {
             names,
             caps,
             requests,
+            completions,
             room: _,
         } = self;
         Recording {
@@ -217,6 +246,7 @@ impl Recorder {
             names,
             caps,
             requests,
+            completions,
         }
     }
 }

@@ -8,7 +8,7 @@ use cam_types::Config;
 use std::marker::Model;
 
 /// What some scheduler did with requests in rounds 1 to a last one: what there was to use, what it took in a round, and when
-/// each request arrived and was started. It keeps the rules of `RecordingFault` and `RequestFault`. A `Recorder` makes one.
+/// each request arrived and was started, and of some also when it was completed. It keeps the rules of `RecordingFault` and `RequestFault`. A `Recorder` makes one.
 #[derive(Debug)]
 pub struct Recording {
     pub(crate) unit: Option<Span>,
@@ -17,6 +17,7 @@ pub struct Recording {
     pub(crate) names: Vec<Name>,
     pub(crate) caps: Vec<Cap>,
     pub(crate) requests: Vec<Request>,
+    pub(crate) completions: bool,
 }
 
 // By hand, so that to its owners a recording that ends is one call and not each of its fields.
@@ -29,6 +30,7 @@ impl Drop for Recording {
             names: _,
             caps: _,
             requests: _,
+            completions: _,
         } = self;
     }
 }
@@ -38,9 +40,9 @@ impl Model for Recording {
 
     ghost Value = { Recorded };
 
-    ghost view = { λ r. record { unit = r.unit; rounds = r.rounds; config = r.config; names = r.names.items; caps = r.caps.items; requests = r.requests.items } };
+    ghost view = { λ r. record { unit = r.unit; rounds = r.rounds; config = r.config; names = r.names.items; caps = r.caps.items; requests = r.requests.items; completions = r.completions } };
 
-    ghost invariant = { λ r. IsKept (record { unit = r.unit; rounds = r.rounds; config = r.config; names = r.names.items; caps = r.caps.items; requests = r.requests.items }) };
+    ghost invariant = { λ r. IsKept (record { unit = r.unit; rounds = r.rounds; config = r.config; names = r.names.items; caps = r.caps.items; requests = r.requests.items; completions = r.completions }) };
 }
 
 impl Recording {
@@ -85,6 +87,14 @@ impl Recording {
         ensures kept { IsKept self.now }
     {
         &self.caps
+    }
+
+    /// Whether the recording says when requests were completed, where that is known. Else no request has `done`.
+    pub fn completions(&self) -> bool
+        ensures same { result ≡ self.now.completions }
+        ensures kept { IsKept self.now }
+    {
+        self.completions
     }
 
     /// The requests, in the order of the text.

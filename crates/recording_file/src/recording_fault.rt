@@ -19,7 +19,8 @@ pub enum RecordingFault {
     BadConfig(u32, ConfigFault),
     /// The record's request can't be one of the recording.
     Illegal(u32, RequestFault),
-    /// More bytes came than a recording may have: 268,435,456 if the first ten are `camrecord1`, else 16,777,216.
+    /// More bytes came than a recording may have: 268,435,456 if the first ten are `camrecord1` or `camrecord2`, else
+    /// 16,777,216.
     TooLong,
     /// A read failed.
     ReadFailed,

@@ -17,10 +17,10 @@ use record_text::{ConfigParser, field};
 pub(crate) enum RecordingParser {
     /// Nothing: the header is due.
     Header,
-    /// The header: a unit or rounds are due.
-    First,
-    /// How long a round is: rounds are due.
-    Timed(Span),
+    /// The header, which says whether completions are recorded: a unit or rounds are due.
+    First(bool),
+    /// That, and how long a round is: rounds are due.
+    Timed(bool, Span),
     /// The rounds, and rows of a configuration.
     Config(Start, ConfigParser),
     /// A whole configuration, and names, caps and requests.
@@ -36,8 +36,8 @@ impl RecordingParser {
     {
         match self {
             RecordingParser::Header => false,
-            RecordingParser::First => word.rank() <= 1,
-            RecordingParser::Timed(_) => word.rank() == 1,
+            RecordingParser::First(_) => word.rank() <= 1,
+            RecordingParser::Timed(..) => word.rank() == 1,
             parser => parser.rank() <= word.rank() && parser.has_place(word),
         }
     }
@@ -51,7 +51,7 @@ impl RecordingParser {
         match self {
             RecordingParser::Config(_, parser) => 2 + parser.next_rank(),
             RecordingParser::Book(recorder) => book_rank(recorder),
-            RecordingParser::Header | RecordingParser::First | RecordingParser::Timed(_) => 2,
+            RecordingParser::Header | RecordingParser::First(_) | RecordingParser::Timed(..) => 2,
         }
     }
 

@@ -12,6 +12,7 @@ ghost use Rattle.std.specs.List.{AllByRecursion};
 ghost use Rattle.cam_types.specs.declared.device.Device.{Device};
 
 use crate::recording::Recording;
+use crate::version::name_text;
 use crate::writing::{write_caps, write_names, write_requests, write_unit};
 use cam_types::{Watched, write_whole};
 use csv::{Writer, WriterBuilder};
@@ -55,7 +56,16 @@ fn recording_text(alloc: Global, recording: &Recording) -> Result<Vec<u8>, Alloc
     let mut writer = WriterBuilder::new().from_writer(Vec::new(alloc));
     write_row(
         &mut writer,
-        &[b"camrecord1", b"a", b"b", b"c", b"d", b"e", b"f", b"g"],
+        &[
+            name_text(recording.completions()),
+            b"a",
+            b"b",
+            b"c",
+            b"d",
+            b"e",
+            b"f",
+            b"g",
+        ],
     )?;
     write_head(&mut writer, recording)?;
     write_names(&mut writer, recording.names())?;

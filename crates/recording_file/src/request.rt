@@ -15,4 +15,6 @@ pub struct Request {
     pub last: Option<u32>,
     /// The round in which it was started.
     pub sent: u32,
+    /// The round in which it was completed, at or after `sent`. It may be after the last round. None if that isn't known.
+    pub done: Option<u32>,
 }

@@ -61,7 +61,10 @@ impl RecordingParser {
             RecordingWord::Dev => Ok(ParsedRow::Dev(in_record(number, device_at(row))?)),
             RecordingWord::Name => self.parsed_name(alloc, number, row),
             RecordingWord::Cap => self.parsed_cap(number, row),
-            RecordingWord::Request => Ok(ParsedRow::Request(in_record(number, request_at(row))?)),
+            RecordingWord::Request => {
+                let request = in_record(number, request_at(self.completions(), row))?;
+                Ok(ParsedRow::Request(request))
+            }
         }
     }
 
@@ -127,6 +130,19 @@ impl RecordingParser {
             RecordingParser::Config(start, _) => start.rounds,
             RecordingParser::Book(recorder) => recorder.rounds(),
             _ => unreachable!(),
+        }
+    }
+
+    // Whether completions are recorded.
+    fn completions(&self) -> bool
+        ensures { result ≡ (recorded_of self.now).completions }
+    {
+        match self {
+            RecordingParser::Header => false,
+            RecordingParser::First(completions) => *completions,
+            RecordingParser::Timed(completions, _) => *completions,
+            RecordingParser::Config(start, _) => start.completions,
+            RecordingParser::Book(recorder) => recorder.completions(),
         }
     }
 

@@ -3,7 +3,7 @@
 ghost use Rattle.std.specs.Prelude.{◌≡◌, ◌≤◌, length, IfOk};
 ghost use Rattle.csv.specs.Records.{fields_of};
 ghost use Rattle.record_text.specs.Fields.{field_of, formed};
-ghost use Rattle.recording_file.specs.Rows.{span_at, rounds_at, request_at};
+ghost use Rattle.recording_file.specs.Rows.{span_at, rounds_at, done_at, request_at};
 ghost use Rattle.recording_file.specs.Words.{time_of};
 ghost use Rattle.recording_file.specs.Recorded.{MAX_RECORDED_ROUNDS};
 
@@ -64,9 +64,8 @@ pub(crate) fn rounds_at(row: &ByteRecord) -> Result<u32, u32>
 
 /// The request of a record, or the number of the first field that hasn't its form.
 #[tactic(auto, unfolding(crate::specs::Rows::request_at))]
-pub(crate) fn request_at(row: &ByteRecord) -> Result<Request, u32>
-    requires { length (fields_of row.now) ≡ 8 }
-    ensures { result ≡ request_at (fields_of row.now) }
+pub(crate) fn request_at(completions: bool, row: &ByteRecord) -> Result<Request, u32>
+    ensures { result ≡ request_at completions (fields_of row.now) }
 {
     let driver = number_at(row, 1, 255)? as u8;
     let device = number_at(row, 2, u32::MAX)?;
@@ -74,7 +73,7 @@ pub(crate) fn request_at(row: &ByteRecord) -> Result<Request, u32>
     let arrival = number_at(row, 4, u32::MAX)?;
     let last = optional_at(row, 5, u32::MAX)?;
     let sent = number_at(row, 6, u32::MAX)?;
-    unused_from(row, 7)?;
+    let done = done_at(completions, sent, row)?;
     Ok(Request {
         driver,
         device,
@@ -82,5 +81,21 @@ pub(crate) fn request_at(row: &ByteRecord) -> Result<Request, u32>
         arrival,
         last,
         sent,
+        done,
     })
+}
+
+// The round in which a request was completed that was started in this one, if there is one.
+#[tactic(auto, unfolding(crate::specs::Rows::done_at))]
+fn done_at(completions: bool, sent: u32, row: &ByteRecord) -> Result<Option<u32>, u32>
+    ensures { result ≡ done_at completions sent (fields_of row.now) }
+{
+    if field(row, 7).is_empty() {
+        return Ok(None);
+    }
+    if !completions {
+        return Err(8);
+    }
+    let done = within_at(row, 7, sent, u32::MAX)?;
+    Ok(Some(done))
 }

@@ -8,9 +8,10 @@ ghost use Rattle.recording_file.specs.Sound.{IsSound};
 
 use crate::recording_fault::RecordingFault;
 use crate::recording_parser::RecordingParser;
+use crate::version::header_at;
 use crate::word::RecordingWord;
 use csv::ByteRecord;
-use record_text::{Parser, is_header};
+use record_text::Parser;
 use std::alloc::Global;
 
 impl RecordingParser {
@@ -93,13 +94,10 @@ impl Parser for RecordingParser {
         row: &ByteRecord,
     ) -> Result<RecordingParser, RecordingFault> {
         match self {
-            RecordingParser::Header => {
-                if is_header(b"camrecord1", row) {
-                    Ok(RecordingParser::First)
-                } else {
-                    Err(RecordingFault::BadHeader)
-                }
-            }
+            RecordingParser::Header => match header_at(row) {
+                Some(completions) => Ok(RecordingParser::First(completions)),
+                None => Err(RecordingFault::BadHeader),
+            },
             parser => parser.take_row(alloc, number, row),
         }
     }

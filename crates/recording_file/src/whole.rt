@@ -6,6 +6,7 @@ ghost use Rattle.recording_file.specs.Whole.{max_bytes, IsLongWhole, IsTooLong};
 ghost use Rattle.recording_file.specs.Recorded.{MAX_RECORDING_BYTES};
 
 use crate::limits::MAX_RECORDING_BYTES;
+use crate::version::name_text;
 use cam_types::{MAX_BYTES, Watched, WholeFault};
 use std::alloc::Global;
 use std::io::Read;
@@ -13,13 +14,13 @@ use std::io::Read;
 /// How many bytes a read asks for.
 const PIECE: usize = 4096;
 
-/// How many bytes a text may have: 268,435,456 if the first ten are `camrecord1`, else 16,777,216.
+/// How many bytes a text may have: 268,435,456 if the first ten are `camrecord1` or `camrecord2`, else 16,777,216.
 #[tactic(auto, unfolding(crate::specs::Whole::max_bytes))]
 fn max_bytes(text: &[u8]) -> usize
     ensures most { result ≡ max_bytes text.now }
     ensures bound { result ≤ MAX_RECORDING_BYTES }
 {
-    if text.starts_with(b"camrecord1") {
+    if text.starts_with(name_text(false)) || text.starts_with(name_text(true)) {
         MAX_RECORDING_BYTES
     } else {
         MAX_BYTES
@@ -27,8 +28,8 @@ fn max_bytes(text: &[u8]) -> usize
 }
 
 /// Reads all bytes to the end of the input, a recording's or another's. It stops at the first error of any kind, an
-/// interrupted read among them, and once more bytes came than there may be: 268,435,456 if the first ten are `camrecord1`,
-/// else 16,777,216.
+/// interrupted read among them, and once more bytes came than there may be: 268,435,456 if the first ten are `camrecord1`
+/// or `camrecord2`, else 16,777,216.
 pub fn read_long<R: Read>(alloc: Global, reader: &mut Watched<R>) -> Result<Vec<u8>, WholeFault>
     requires { has_failed reader.old ≡ false }
     ensures whole { IfOk result (λ text. IsLongWhole (R.remaining (device_of reader.old)) (R.remaining (device_of reader.new)) text.items) }

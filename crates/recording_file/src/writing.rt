@@ -4,7 +4,7 @@ ghost use Rattle.std.specs.Prelude.{◌≡◌, ◌≤◌, ◌∷◌, ◌++◌, [
 ghost use Rattle.std.specs.List.{AllByRecursion};
 ghost use Rattle.cam_types.specs.declared.device.Device.{Device};
 ghost use Rattle.recording_file.specs.Names.{NameValue};
-ghost use Rattle.recording_file.specs.Recorded.{Request, Span};
+ghost use Rattle.recording_file.specs.Recorded.{FitsFields, Span};
 ghost use Rattle.recording_file.specs.Records.{unit_rows, unit_row, name_row, cap_row, request_row};
 ghost use Rattle.record_text.specs.ConfigRows.{padded, weight_row, link_row, adapter_row, device_row, optional_text};
 ghost use Rattle.recording_file.specs.Words.{time_text, named_text, part_text};
@@ -152,7 +152,7 @@ pub(crate) fn write_requests<W: Write + Drop>(
 ) -> Result<(), AllocError>
     requires { IsBetween writer.old }
     ensures rows { OnOk result (Wrote W.contents writer.old writer.new (map request_row requests.now)) }
-    ensures fits { OnOk result (AllByRecursion (λ (q : Request). q.driver ≤ 255) requests.now) }
+    ensures fits { OnOk result (AllByRecursion FitsFields requests.now) }
 {
     for request in requests {
         write_request(writer, *request)?;
@@ -166,7 +166,7 @@ fn write_request<W: Write + Drop>(
 ) -> Result<(), AllocError>
     requires { IsBetween writer.old }
     ensures rows { OnOk result (Wrote W.contents writer.old writer.new (request_row request ∷ [])) }
-    ensures fits { request.driver ≤ 255 }
+    ensures fits { FitsFields request }
 {
     let mut driver = Buffer::new();
     let mut device = Buffer::new();
@@ -174,16 +174,18 @@ fn write_request<W: Write + Drop>(
     let mut arrival = Buffer::new();
     let mut last = Buffer::new();
     let mut sent = Buffer::new();
+    let mut done = Buffer::new();
     let driver = driver.format(request.driver).as_bytes();
     let device = device.format(request.device).as_bytes();
     let priority = priority.format(request.priority).as_bytes();
     let arrival = arrival.format(request.arrival).as_bytes();
     let last = optional_text(&mut last, request.last);
     let sent = sent.format(request.sent).as_bytes();
+    let done = optional_text(&mut done, request.done);
     write_row(
         writer,
         &[
-            b"request", driver, device, priority, arrival, last, sent, b"",
+            b"request", driver, device, priority, arrival, last, sent, done,
         ],
     )
 }

@@ -8,5 +8,5 @@ use Rattle.camxpt_c.proofs.recording_items.add_requests.Given as goal
 abbrev pub invariant-loop-number : goal.invariant-loop-number
 invariant-loop-number l = record {
   made : l.recorder ≡ record l.fn.recorder { requests = map request_of (take l.number l.shapes) };
-  none : first_answer (request_fault l.fn.recorder.rounds l.fn.recorder.config l.fn.recorder.caps) (prefixed (take l.number l.shapes)) ≡ None;
+  none : first_answer (request_fault l.fn.recorder.completions l.fn.recorder.rounds l.fn.recorder.config l.fn.recorder.caps) (prefixed (take l.number l.shapes)) ≡ None;
 }

@@ -15,6 +15,6 @@ loop-number-preserved c =
       | then-is_on+in_ok-own w ↦
           let size = w.add_row.auto.sums in
           let many : length w.add_row.new.sums ≡ length c.loop-number.sums.items = size ∙ ap length w.deref_mut.ensures.value in
-          rw (w.sums-is, with_items_is c.loop-number.sums w.add_row.new.sums (omega (arith, many))) (sum_row_taken a.config.now a.adapter (λ n r. own_cap a.config.now a.rated.now a.requests.now (part_of kind.Device n) r) n a.last c.loop-number.sums.items w.in_ok-own.own.items w.add_row.new.sums (sym c.is_on.ensures ∙ w.if-is_on.true) c.loop-number.invariant w.in_ok-own.ensures many (rw (w.deref_mut.ensures.value, w.deref.ensures.value) at w.add_row.ensures))
-      | else-is_on w ↦ rw w.sums-is (sum_row_passed a.config.now a.adapter (λ n r. own_cap a.config.now a.rated.now a.requests.now (part_of kind.Device n) r) n a.last c.loop-number.sums.items (sym c.is_on.ensures ∙ w.if-is_on.false) c.loop-number.invariant)
+          rw (w.sums-is, with_items_is c.loop-number.sums w.add_row.new.sums (omega (arith, many))) (sum_row_taken a.config.now a.adapter (λ n r. own_cap a.config.now a.rated.now a.spare.now a.requests.now (part_of kind.Device n) r) n a.last c.loop-number.sums.items w.in_ok-own.own.items w.add_row.new.sums (sym c.is_on.ensures ∙ w.if-is_on.true) c.loop-number.invariant w.in_ok-own.ensures many (rw (w.deref_mut.ensures.value, w.deref.ensures.value) at w.add_row.ensures))
+      | else-is_on w ↦ rw w.sums-is (sum_row_passed a.config.now a.adapter (λ n r. own_cap a.config.now a.rated.now a.spare.now a.requests.now (part_of kind.Device n) r) n a.last c.loop-number.sums.items (sym c.is_on.ensures ∙ w.if-is_on.false) c.loop-number.invariant)
     ]

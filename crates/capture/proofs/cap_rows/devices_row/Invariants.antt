@@ -6,4 +6,4 @@ use Rattle.capture.proofs.cap_rows.devices_row.Given as goal
 
 -- what the devices so far take together
 abbrev pub invariant-loop-number : goal.invariant-loop-number
-invariant-loop-number l = IsSumRow l.config l.adapter (λ n r. own_cap l.config l.rated l.requests (part_of kind.Device n) r) l.number l.last l.sums.items
+invariant-loop-number l = IsSumRow l.config l.adapter (λ n r. own_cap l.config l.rated l.spare l.requests (part_of kind.Device n) r) l.number l.last l.sums.items

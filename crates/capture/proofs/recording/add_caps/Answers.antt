@@ -24,22 +24,22 @@ add_runs-requires-clause-most c = λ round some few.
     let row = c.in_ok-row.ensures in
     let rounds : c.rounds.result ≡ c.args.recorder.now.rounds = c.rounds.ensures.same ∙ ap (λ (r : Recorded). r.rounds) c.loop-part.invariant in
     let same = c.rounds.ensures.same in
-    rw (c.deref.ensures.value, row.each round (omega arith)) (cap_few c.args.config.now c.args.rated.now c.args.«open».now c.args.requests.now _ _ round c.requires.kept (c.requires.crowds round some (omega arith)))
+    rw (c.deref.ensures.value, row.each round (omega arith)) (cap_few c.args.config.now c.args.rated.now c.args.«open».now c.args.spare.now c.args.requests.now _ _ round c.requires.kept (c.requires.crowds round some (omega arith)))
 
 pub add_runs-requires-clause-before : goal.add_runs-requires-clause-before
 add_runs-requires-clause-before c =
     let a = c.args in
-    rw (c.loop-part.invariant, c.requires.parts) (caps_before (cap_of a.config.now a.rated.now a.«open».now a.requests.now) (openings a.config.now) a.recorder.now.rounds _ _ (earlier_parts a.config.now c.loop-part.part-index _ (rw c.requires.parts at c.loop-part-test.true)))
+    rw (c.loop-part.invariant, c.requires.parts) (caps_before (cap_of a.config.now a.rated.now a.«open».now a.spare.now a.requests.now) (openings a.config.now) a.recorder.now.rounds _ _ (earlier_parts a.config.now c.loop-part.part-index _ (rw c.requires.parts at c.loop-part-test.true)))
 
 pub loop-part-preserved : goal.loop-part-preserved
 loop-part-preserved c =
     let a = c.args in
     let rounds : c.loop-part.recorder.rounds ≡ a.recorder.now.rounds = ap (λ (r : Recorded). r.rounds) c.loop-part.invariant in
-    caps_part a.recorder.now c.loop-part.recorder c.add_runs.new.recorder (part_caps a.config.now a.rated.now a.«open».now a.requests.now a.recorder.now.rounds) a.parts.now c.loop-part.part-index _ _ c.loop-part-test.true c.loop-part.invariant
-    (runs_of_row a.config.now a.rated.now a.«open».now a.requests.now _ c.in_ok-row.row.items c.deref.result.now c.openings.result c.rounds.result c.loop-part.recorder.rounds a.recorder.now.rounds c.deref.ensures.value c.in_ok-row.ensures c.openings.ensures c.rounds.ensures.same rounds)
+    caps_part a.recorder.now c.loop-part.recorder c.add_runs.new.recorder (part_caps a.config.now a.rated.now a.«open».now a.spare.now a.requests.now a.recorder.now.rounds) a.parts.now c.loop-part.part-index _ _ c.loop-part-test.true c.loop-part.invariant
+    (runs_of_row a.config.now a.rated.now a.«open».now a.spare.now a.requests.now _ c.in_ok-row.row.items c.deref.result.now c.openings.result c.rounds.result c.loop-part.recorder.rounds a.recorder.now.rounds c.deref.ensures.value c.in_ok-row.ensures c.openings.ensures c.rounds.ensures.same rounds)
     c.in_ok-add_runs.ensures
 
 pub returns : goal.returns
 returns c =
     let a = c.args in
-    caps_all a.recorder.now c.loop-part.recorder (part_caps a.config.now a.rated.now a.«open».now a.requests.now a.recorder.now.rounds) a.parts.now c.loop-part.part-index c.loop-part-test.false c.loop-part.invariant ∙ ap (λ ps. record a.recorder.now { caps = flat_map (part_caps a.config.now a.rated.now a.«open».now a.requests.now a.recorder.now.rounds) ps }) c.requires.parts
+    caps_all a.recorder.now c.loop-part.recorder (part_caps a.config.now a.rated.now a.«open».now a.spare.now a.requests.now a.recorder.now.rounds) a.parts.now c.loop-part.part-index c.loop-part-test.false c.loop-part.invariant ∙ ap (λ ps. record a.recorder.now { caps = flat_map (part_caps a.config.now a.rated.now a.«open».now a.spare.now a.requests.now a.recorder.now.rounds) ps }) c.requires.parts

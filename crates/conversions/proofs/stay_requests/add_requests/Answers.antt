@@ -1,4 +1,4 @@
-use Rattle.std.proofs.Common.{◌≡◌, ◌<◌, ◌∙◌, length, take, get_or, ap, arith}
+use Rattle.std.proofs.Common.{◌≡◌, ◌<◌, ◌∙◌, length, take, get_or, refl, ap, arith}
 use Rattle.std.proofs.lemmas.List.{length-map, length-take}
 use Rattle.cam_types.specs.Topology.{IsConfig}
 use Rattle.event_rules.specs.Counts.{round, submissions}
@@ -19,6 +19,9 @@ add_request-requires-clause-few c =
     let many = as_many h.events c.stays-stay-items.result.now c.stays-stay-items.ensures in
     let most = stays_most h.config h.events c.events.ensures.legal in
     rw c.loop-stay.invariant (omega (arith, c.loop-stay-test.true, length-map (take n (stays_begun h.events)) (request_of h.events), length-take n (stays_begun h.events)))
+
+pub add_request-requires-clause-done : goal.add_request-requires-clause-done
+add_request-requires-clause-done c = rw c.request_of.ensures refl
 
 pub add_request-requires-clause-fits : goal.add_request-requires-clause-fits
 add_request-requires-clause-fits c =

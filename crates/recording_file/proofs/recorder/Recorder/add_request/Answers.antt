@@ -8,4 +8,4 @@ place_request-requires-clause-caps c = rw c.deref.ensures.value (caps_laid _ c.s
 pub invariant_of-self : goal.invariant_of-self
 invariant_of-self c =
     let e = rw c.deref.ensures.value at c.place_request.ensures.answer in
-    placed_kept _ _ c.args.request _ OutOfMemory _ c.self.invariant.kept (rw (← c.self.view_is) at c.requires) e c.place_request.ensures.ok c.place_request.ensures.err (rw c.deref.ensures.value at c.place_request.ensures.table)
+    placed_kept _ _ c.args.request _ OutOfMemory _ c.self.invariant.kept (rw (← c.self.view_is) at c.requires.few) (rw (← c.self.view_is) at c.requires.done) e c.place_request.ensures.ok c.place_request.ensures.err (rw c.deref.ensures.value at c.place_request.ensures.table)

@@ -1,0 +1,11 @@
+pub mod ListLemmas
+pub mod ServiceLemmas
+pub mod BoundLemmas
+pub mod FoundLemmas
+pub mod ChangeLemmas
+pub mod TallyLemmas
+pub mod RangeLemmas
+pub mod SpanLemmas
+pub mod LevelLemmas
+pub mod SweepLemmas
+pub mod SpareLemmas

@@ -3,11 +3,13 @@
 #![tactic(auto)]
 
 pub use checker::check;
+pub use order::costs_are_in_order;
 pub use report_text::{Claim, ReportFault, read_report};
 pub use verdict::{Cause, Verdict};
 
 mod checker;
 mod faults;
+mod order;
 mod payments;
 mod rests;
 mod value;

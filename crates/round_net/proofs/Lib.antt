@@ -3,12 +3,14 @@ pub mod CountLemmas
 pub mod EndLemmas
 pub mod ExchangeLemmas
 pub mod LoadLemmas
+pub mod LoadListLemmas
 pub mod MarkLemmas
 pub mod FilledLemmas
 pub mod NetLemmas
 pub mod FoundLemmas
 pub mod OpeningLemmas
 pub mod OwnerLemmas
+pub mod PaceLemmas
 pub mod PathLemmas
 pub mod PlaceLemmas
 pub mod PriceLemmas

@@ -9,11 +9,14 @@ use Rattle.round_net.specs.Nets.{cells, table}
 use Rattle.round_net.proofs.CellLemmas.{cell_within}
 
 -- the row and the round of a place
-row_of_place : (rows rounds at : ℕ) → 1 ≤ rounds → at < rows * rounds → at / rounds < rows
+pub row_of_place : (rows rounds at : ℕ) → 1 ≤ rounds → at < rows * rounds → at / rounds < rows
 row_of_place rows rounds at some lt = (div-lt_iff_lt-mul some).1 lt
 
-round_of_place : (rounds at : ℕ) → 1 ≤ rounds → at % rounds + 1 ≤ rounds
+pub round_of_place : (rounds at : ℕ) → 1 ≤ rounds → at % rounds + 1 ≤ rounds
 round_of_place rounds at some = let lt : at % rounds < rounds = mod-lt at some in omega arith
+
+pub cell_of_place : (rounds at : ℕ) → cell rounds (at / rounds) (at % rounds + 1) ≡ at
+cell_of_place rounds at = omega (arith, mod-eq-sub-div-mul at rounds, div-mul-le_self at rounds)
 
 pub length-cells : (rounds : ℕ) (value : ℕ → ℕ → ℕ) (n : ℕ) → length (cells rounds value n) ≡ n
 unfolding cells
@@ -45,5 +48,5 @@ table_by_cells rows rounds value xs some count h =
     ext_get_or 0 xs (table rows rounds value) (omega (arith, count, length-cells rounds value (rows * rounds))) (λ i lt.
     let within : i < rows * rounds = omega (arith, count) in
     let row = row_of_place rows rounds i some within in
-    let here : cell rounds (i / rounds) (i % rounds + 1) ≡ i = omega (arith, mod-eq-sub-div-mul i rounds, div-mul-le_self i rounds) in
+    let here : cell rounds (i / rounds) (i % rounds + 1) ≡ i = cell_of_place rounds i in
     ap (slice_index xs) (sym here) ∙ h (i / rounds) (i % rounds + 1) row (omega arith) (round_of_place rounds i some) ∙ sym (get_or-cells rounds value (rows * rounds) i within))

@@ -9,6 +9,8 @@ pub mod PriceRows
 pub mod Caps
 pub mod Nets
 pub mod RecordedNets
+pub mod LoadLists
+pub mod Pace
 pub mod Marks
 pub mod Ends
 pub mod CauseWords

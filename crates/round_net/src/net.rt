@@ -1,5 +1,7 @@
 //! Nets: that of a complete history, and that of a recording.
 
+mod other_caps;
+
 use crate::flat::cell;
 use crate::net_fault::NetFault;
 use crate::price_range::{MAX_NET_PRICE, MAX_PRICE};

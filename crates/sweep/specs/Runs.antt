@@ -1,5 +1,5 @@
 -- what a run of a script comes to
-use Rattle.std.specs.Prelude.{◌≡◌, ℕ, ◌-◌, Bool, true, false, not, List, length, count_by, sum_by, slice_index, is_none}
+use Rattle.std.specs.Prelude.{◌≡◌, ℕ, ◌-◌, Bool, true, false, not, List, [], length, count_by, sum_by, slice_index, is_none}
 use Rattle.event_rules.specs.Event.{is_erring}
 use Rattle.event_rules.specs.Past.{Past}
 use Rattle.event_rules.specs.Stays.{unsent}
@@ -15,8 +15,10 @@ use Rattle.sim_worker.specs.declared.ending.Ending.TheVariants.{Drained, RoundsF
 use Rattle.round_net.specs.Nets.{net_of}
 use Rattle.round_net.specs.Rows.{instance_of_rows}
 use Rattle.round_net.specs.Value.{Pricing, ProvesBest}
+use Rattle.wait_causes.specs.Origins.{known_of}
 use Rattle.wait_causes.specs.Stays.{explained}
 use Rattle.wait_causes.specs.Parts.{part_of}
+use Rattle.wait_causes.specs.declared.part.Part.{Part}
 use Rattle.wait_causes.specs.declared.origin.Origin.TheVariants as origin
 pub use Rattle.sweep.specs.declared.runner.Numbers.{Numbers}
 pub use Rattle.sweep.specs.declared.runner.Tally.{Tally}
@@ -49,14 +51,18 @@ has_drained events Drained = is_none (unsent events)
 has_drained events RoundsFull = false
 has_drained events HistoryFull = false
 
+-- what all stays of a history waited, beside a best schedule
+abbrev pub whole_of : Past → List ℕ → Part
+whole_of h best = part_of (known_of (origin.Trace h)) (explained (origin.Trace h) [] best)
+
 -- What the waiting of the history cost, beside a schedule that these prices prove to be a best one.
 pub record AreNumbersOf (h : Past) (n : Numbers) : Type 0 where
   pub best : List ℕ
   pub prices : Pricing
   pub proved : ProvesBest (instance_of_rows (net_of h.config h.events)) (slice_index best) prices
-  pub live_is : n.live ≡ (part_of (explained (origin.Trace h) best)).live
-  pub best_is : n.best ≡ (part_of (explained (origin.Trace h) best)).best
-  pub p99_is : n.p99 ≡ (part_of (explained (origin.Trace h) best)).p99
+  pub live_is : n.live ≡ (whole_of h best).live
+  pub best_is : n.best ≡ (whole_of h best).best
+  pub p99_is : n.p99 ≡ (whole_of h best).p99
 
 -- a run that drained has the numbers of its history, and another one left commands
 abbrev pub IsTallyOf : Scenario → Past → Ending → Tally → Type 0

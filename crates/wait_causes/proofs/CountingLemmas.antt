@@ -1,5 +1,5 @@
 -- lists of totals, by device and by weight
-use Rattle.std.proofs.Common.{◌≡◌, ◌≢◌, ℕ, zero, suc, ◌+◌, ◌<◌, ◌≤◌, List, [], ◌∷◌, ◌++◌, map, length, replicate, get_or, set, refl, sym, ap, ◌∙◌, arith, ◌⊎◌, inl, inr, length-set, get_or-set_same, get_or-set_other, Vec, zero-add, take}
+use Rattle.std.proofs.Common.{◌≡◌, ◌≢◌, ℕ, zero, suc, ◌+◌, ◌<◌, ◌≤◌, List, [], ◌∷◌, ◌++◌, map, length, replicate, get_or, set, refl, sym, ap, ◌∙◌, arith, ◌⊎◌, inl, inr, length-set, get_or-set_same, get_or-set_other, Vec, zero-add, take, None}
 use Rattle.std.specs.Global.{Global}
 use Rattle.std.specs.List.{range_with_len}
 use Rattle.std.proofs.lemmas.List.{length-map, length-replicate, map-append, replicate_more, take_more}
@@ -130,4 +130,4 @@ rows_more f xs i old new y d was is here lt =
 
 -- any stay, as a default
 abbrev pub blank : ExplainedStay
-blank = record { ccb = 0; attempt = 0; driver = 0; device = 0; adapter = 0; priority = 0; level = 0; weight = 0; arrival = 0; live = 0; best = 0; rounds = no_rounds; behind = no_behind }
+blank = record { ccb = 0; attempt = 0; driver = 0; device = 0; adapter = 0; priority = 0; level = 0; weight = 0; arrival = 0; live = 0; pace = None; best = 0; last = None; done = None; rounds = no_rounds; behind = no_behind }

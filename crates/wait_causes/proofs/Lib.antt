@@ -23,3 +23,4 @@ pub mod PairLemmas
 pub mod SameLemmas
 pub mod RowSumLemmas
 pub mod RowNumberLemmas
+pub mod LatencyLemmas

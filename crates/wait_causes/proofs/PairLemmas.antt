@@ -9,6 +9,7 @@ use Rattle.wait_causes.specs.declared.table.Grouping.{Grouping}
 use Rattle.wait_causes.specs.declared.table.Row as table
 use Rattle.wait_causes.proofs.CostLemmas.{sum_flat}
 use Rattle.wait_causes.specs.Keys.{is_pair}
+use Rattle.wait_causes.specs.Origins.{Known}
 use Rattle.wait_causes.specs.Pairs.{numbers, row_at, pair_of, alone, pairs_at, paired, PairedRow}
 use Rattle.wait_causes.specs.PairLaws.{amount_in, passes, PairsAddUp, RowsPairOnce}
 use Rattle.wait_causes.proofs.KeyLemmas.{IsMatching, matching}
@@ -147,23 +148,23 @@ split : (b : Bool) (n : ℕ) → taken b n + cond b 0 n ≡ n
 split true n = omega arith
 split false n = omega arith
 
-all_before : (same : ℕ → ℕ → Bool) (by : Grouping) (was now : List ExplainedStay) (g : table.Row → ℕ) →
-    sum_by (λ (p : PairedRow). amount_in g p.before) (paired same (table_of by was) (table_of by now)) ≡ sum_by g (table_of by was)
+all_before : (same : ℕ → ℕ → Bool) (known known_after : Known) (by : Grouping) (was now : List ExplainedStay) (g : table.Row → ℕ) →
+    sum_by (λ (p : PairedRow). amount_in g p.before) (paired same (table_of known by was) (table_of known_after by now)) ≡ sum_by g (table_of known by was)
 unfolding paired
-all_before same by was now g =
-    let before = table_of by was in
-    let after = table_of by now in
+all_before same known known_after by was now g =
+    let before = table_of known by was in
+    let after = table_of known_after by now in
     let most = max (numbers before) (numbers after) in
     sum_flat (λ (p : PairedRow). amount_in g p.before) (pairs_at same before after) (range_with_len 0 most)
     ∙ sum_eq (λ n. sum_by (λ (p : PairedRow). amount_in g p.before) (pairs_at same before after n)) (λ n. amount_in g (row_at before n)) (range_with_len 0 most) (λ n. before_at same g before after n)
-    ∙ all_amounts by was g most (omega arith)
+    ∙ all_amounts known by was g most (omega arith)
 
-all_after : (same : ℕ → ℕ → Bool) → IsMatching same → (by : Grouping) (was now : List ExplainedStay) (g : table.Row → ℕ) →
-    sum_by (λ (p : PairedRow). amount_in g p.after) (paired same (table_of by was) (table_of by now)) ≡ sum_by g (table_of by now)
+all_after : (same : ℕ → ℕ → Bool) → IsMatching same → (known known_after : Known) (by : Grouping) (was now : List ExplainedStay) (g : table.Row → ℕ) →
+    sum_by (λ (p : PairedRow). amount_in g p.after) (paired same (table_of known by was) (table_of known_after by now)) ≡ sum_by g (table_of known_after by now)
 unfolding paired
-all_after same one by was now g =
-    let before = table_of by was in
-    let after = table_of by now in
+all_after same one known known_after by was now g =
+    let before = table_of known by was in
+    let after = table_of known_after by now in
     let most = max (numbers before) (numbers after) in
     let owned = λ (r : table.Row). amount_in g (partner same after r.number) in
     let free = λ (s : table.Row). cond (has_owner same before s.number) 0 (g s) in
@@ -171,13 +172,13 @@ all_after same one by was now g =
     sum_flat (λ (p : PairedRow). amount_in g p.after) (pairs_at same before after) (range_with_len 0 most)
     ∙ sum_eq (λ n. sum_by (λ (p : PairedRow). amount_in g p.after) (pairs_at same before after n)) (λ n. amount_in owned (row_at before n) + amount_in free (row_at after n)) (range_with_len 0 most) (λ n. after_at same g before after n)
     ∙ sum_both (λ n. amount_in owned (row_at before n)) (λ n. amount_in free (row_at after n)) (range_with_len 0 most)
-    ∙ ap (λ k. k + sum_by (λ n. amount_in free (row_at after n)) (range_with_len 0 most)) (all_amounts by was owned most (omega arith) ∙ partners same one g before after (ascending by was) (ascending by now))
-    ∙ ap (λ k. sum_by kept after + k) (all_amounts by now free most (omega arith))
+    ∙ ap (λ k. k + sum_by (λ n. amount_in free (row_at after n)) (range_with_len 0 most)) (all_amounts known by was owned most (omega arith) ∙ partners same one g before after (ascending known by was) (ascending known_after by now))
+    ∙ ap (λ k. sum_by kept after + k) (all_amounts known_after by now free most (omega arith))
     ∙ sym (sum_both kept free after)
     ∙ sum_eq (λ (s : table.Row). kept s + free s) g after (λ s. split (has_owner same before s.number) (g s))
 
 pub all_pairs : PairsAddUp
-all_pairs kind was now by before after amount = (all_before _ by before after amount, all_after _ (matching kind was now) by before after amount)
+all_pairs kind was now by known known_after before after amount = (all_before _ known known_after by before after amount, all_after _ (matching kind was now) known known_after by before after amount)
 
 -- ---- each row once
 
@@ -186,11 +187,11 @@ counts test None = refl
 counts test (Some r) = refl
 
 pub pair_once : RowsPairOnce
-pair_once kind was now by before after test =
+pair_once kind was now by known known_after before after test =
     let one = λ (r : table.Row). cond (test r) 1 0 in
-    let pairs = paired (is_pair kind was now) (table_of by before) (table_of by after) in (
-      sum_eq (λ (p : PairedRow). cond (passes test p.before) 1 0) (λ (p : PairedRow). amount_in one p.before) pairs (λ p. counts test p.before) ∙ (all_pairs kind was now by before after one).0,
-      sum_eq (λ (p : PairedRow). cond (passes test p.after) 1 0) (λ (p : PairedRow). amount_in one p.after) pairs (λ p. counts test p.after) ∙ (all_pairs kind was now by before after one).1,
+    let pairs = paired (is_pair kind was now) (table_of known by before) (table_of known_after by after) in (
+      sum_eq (λ (p : PairedRow). cond (passes test p.before) 1 0) (λ (p : PairedRow). amount_in one p.before) pairs (λ p. counts test p.before) ∙ (all_pairs kind was now by known known_after before after one).0,
+      sum_eq (λ (p : PairedRow). cond (passes test p.after) 1 0) (λ (p : PairedRow). amount_in one p.after) pairs (λ p. counts test p.after) ∙ (all_pairs kind was now by known known_after before after one).1,
     )
 
 -- ---- row by row

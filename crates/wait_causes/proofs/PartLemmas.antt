@@ -6,10 +6,11 @@ use Rattle.cam_types.specs.Lists.{prefixed}
 use Rattle.cam_types.specs.declared.limits.TheConstants.{MAX_WEIGHT}
 use Rattle.recording_file.specs.Recorded.{Recorded}
 use Rattle.recording_file.specs.declared.request.Request.{Request}
-use Rattle.wait_causes.specs.Words.{MAX_NET_ROUNDS, Topology, live_round, live_part, live_cost, stays_begun, unsent, Event, Passage, Error, Caller, AdapterFrozen, DeviceStopped, AdapterStopped, LinkStopped, DeviceFull, AdapterFull, LinkFull, NotAsked}
-use Rattle.wait_causes.specs.Origins.{Origin, cause_of}
+use Rattle.wait_causes.specs.Words.{Topology, live_round, live_part, live_cost, stays_begun, unsent, Event, Passage, Error, Caller, AdapterFrozen, DeviceStopped, AdapterStopped, LinkStopped, DeviceFull, AdapterFull, LinkFull, NotAsked}
+use Rattle.wait_causes.specs.Origins.{Origin, Known, cause_of}
 use Rattle.wait_causes.specs.declared.origin.Origin.TheVariants as origin
-use Rattle.wait_causes.specs.Parts.{waited, measure, is_enough, rank_of, part_of, costs_of, all_costs, Live, Cost}
+use Rattle.wait_causes.specs.Ranks.{is_enough, rank_below}
+use Rattle.wait_causes.specs.Parts.{waited, measure, part_of, costs_of, all_costs, Live, Cost}
 use Rattle.std.proofs.lemmas.Grind.{flat_map-append}
 use Rattle.std.proofs.lemmas.List.{append-nil}
 use Rattle.std.proofs.lemmas.Nat.{mul-le}
@@ -67,45 +68,47 @@ find_skip test a (suc k) n le short =
     ∙ ap (λ b. find test (range_with_len b (n - b))) same
 
 -- the least number that is enough lies between two
-pub record IsSought (thousandths : ℕ) (xs : List ℕ) (low high : ℕ) : Type 0 where
+pub record IsSought (most thousandths : ℕ) (xs : List ℕ) (low high : ℕ) : Type 0 where
   pub order : low ≤ high
-  pub most : high ≤ MAX_NET_ROUNDS
+  pub inside : high ≤ most
   pub short : (r : ℕ) → r < low → is_enough thousandths xs r ≡ false
-  pub enough : high < MAX_NET_ROUNDS → is_enough thousandths xs high ≡ true
+  pub enough : high < most → is_enough thousandths xs high ≡ true
 
 pub middle_lies : (low high : ℕ) → low < high → (low ≤ low + (high - low) / 2) × (low + (high - low) / 2 < high)
 middle_lies low high lt = (omega arith, omega arith)
 
-pub sought_above : (thousandths : ℕ) (xs : List ℕ) (low high middle few : ℕ) → low ≤ middle → middle < high → 1000 * few < thousandths * length xs → few ≡ count_by (λ x. nat_le x middle) xs →
-    IsSought thousandths xs low high → IsSought thousandths xs (middle + 1) high
-sought_above thousandths xs low high middle few from to less is kept =
+pub sought_above : (most thousandths : ℕ) (xs : List ℕ) (low high middle few : ℕ) → low ≤ middle → middle < high → 1000 * few < thousandths * length xs → few ≡ count_by (λ x. nat_le x middle) xs →
+    IsSought most thousandths xs low high → IsSought most thousandths xs (middle + 1) high
+sought_above most thousandths xs low high middle few from to less is kept =
     let short_of : nat_le (thousandths * length xs) (1000 * few) ≡ false = grind (arith, nat_tests) in
     let fails : is_enough thousandths xs middle ≡ false = ap (λ n. nat_le (thousandths * length xs) (1000 * n)) (sym is) ∙ short_of in
     record {
       order = omega (arith, to);
-      most = kept.most;
+      inside = kept.inside;
       short = λ r lt. short_before thousandths xs r middle (omega (arith, lt)) fails;
       enough = kept.enough;
     }
 
-sought_left : (thousandths : ℕ) (xs : List ℕ) (low high : ℕ) → IsSought thousandths xs low high → find (is_enough thousandths xs) (range_with_len 0 MAX_NET_ROUNDS) ≡ find (is_enough thousandths xs) (range_with_len low (MAX_NET_ROUNDS - low))
-sought_left thousandths xs low high kept =
+sought_left : (most thousandths : ℕ) (xs : List ℕ) (low high : ℕ) → IsSought most thousandths xs low high → find (is_enough thousandths xs) (range_with_len 0 most) ≡ find (is_enough thousandths xs) (range_with_len low (most - low))
+sought_left most thousandths xs low high kept =
     let plain : 0 + low ≡ low = omega arith in
-    find_skip (is_enough thousandths xs) 0 low MAX_NET_ROUNDS (omega (arith, kept.order, kept.most)) (λ r lt. kept.short r (omega (arith, lt)))
-    ∙ ap (λ b. find (is_enough thousandths xs) (range_with_len b (MAX_NET_ROUNDS - b))) plain
+    let all : most ≡ most - 0 = omega arith in
+    ap (λ n. find (is_enough thousandths xs) (range_with_len 0 n)) all
+    ∙ find_skip (is_enough thousandths xs) 0 low most (omega (arith, kept.order, kept.inside)) (λ r lt. kept.short r (omega (arith, lt)))
+    ∙ ap (λ b. find (is_enough thousandths xs) (range_with_len b (most - b))) plain
 
-pub sought_found : (thousandths : ℕ) (xs : List ℕ) (low high : ℕ) → high ≤ low → low < MAX_NET_ROUNDS → IsSought thousandths xs low high → low ≡ rank_of thousandths xs
-unfolding rank_of
-sought_found thousandths xs low high over lt kept =
+pub sought_found : (most thousandths : ℕ) (xs : List ℕ) (low high : ℕ) → high ≤ low → low < most → IsSought most thousandths xs low high → low ≡ rank_below most thousandths xs
+unfolding rank_below
+sought_found most thousandths xs low high over lt kept =
     let same : high ≡ low = omega (arith, over, kept.order) in
     let passes : is_enough thousandths xs low ≡ true = ap (is_enough thousandths xs) (sym same) ∙ kept.enough (omega (arith, same, lt)) in
-    ap (λ o. unwrap_or o 0) (sym (sought_left thousandths xs low high kept ∙ find_here (is_enough thousandths xs) low MAX_NET_ROUNDS (MAX_NET_ROUNDS - (low + 1)) (omega (arith, lt)) passes))
+    ap (λ o. unwrap_or o 0) (sym (sought_left most thousandths xs low high kept ∙ find_here (is_enough thousandths xs) low most (most - (low + 1)) (omega (arith, lt)) passes))
 
-pub sought_none : (thousandths : ℕ) (xs : List ℕ) (low high : ℕ) → MAX_NET_ROUNDS ≤ low → IsSought thousandths xs low high → 0 ≡ rank_of thousandths xs
-unfolding rank_of
-sought_none thousandths xs low high le kept =
-    let over : MAX_NET_ROUNDS - low ≡ 0 = omega (arith, le) in
-    ap (λ o. unwrap_or o 0) (sym (sought_left thousandths xs low high kept ∙ ap (λ n. find (is_enough thousandths xs) (range_with_len low n)) over))
+pub sought_none : (most thousandths : ℕ) (xs : List ℕ) (low high : ℕ) → most ≤ low → IsSought most thousandths xs low high → 0 ≡ rank_below most thousandths xs
+unfolding rank_below
+sought_none most thousandths xs low high le kept =
+    let over : most - low ≡ 0 = omega (arith, le) in
+    ap (λ o. unwrap_or o 0) (sym (sought_left most thousandths xs low high kept ∙ ap (λ n. find (is_enough thousandths xs) (range_with_len low n)) over))
 
 -- 1 for one that passes
 abbrev pass : Bool → ℕ
@@ -131,12 +134,12 @@ find_alike p q [] same = refl
 find_alike p q (x ∷ xs) same = rw (same x) (ap (cond (q x) (Some x)) (find_alike p q xs same))
 
 -- numbers in another order have the same ranks
-pub rank_moved : (thousandths : ℕ) (xs ys : List ℕ) → IsPermutation xs ys → rank_of thousandths ys ≡ rank_of thousandths xs
-unfolding rank_of
-rank_moved thousandths xs ys moved =
+pub rank_moved : (most thousandths : ℕ) (xs ys : List ℕ) → IsPermutation xs ys → rank_below most thousandths ys ≡ rank_below most thousandths xs
+unfolding rank_below
+rank_moved most thousandths xs ys moved =
     let long = length_permutation xs ys moved in
     let alike : (n : ℕ) → is_enough thousandths ys n ≡ is_enough thousandths xs n = λ n. rw (long, sum_by-IsPermutation (λ x. cond (nat_le x n) 1 0) xs ys moved) refl in
-    ap (λ o. unwrap_or o 0) (find_alike (is_enough thousandths ys) (is_enough thousandths xs) (range_with_len 0 MAX_NET_ROUNDS) alike)
+    ap (λ o. unwrap_or o 0) (find_alike (is_enough thousandths ys) (is_enough thousandths xs) (range_with_len 0 most) alike)
 
 -- the rows so far and those of one number more
 pub rows_step : {X : Type 0} (f : ℕ → List X) (old new : List X) (n : ℕ) → old ≡ flat_map f (range_with_len 0 n) → new ≡ old ++ f n → new ≡ flat_map f (range_with_len 0 (n + 1))
@@ -185,21 +188,21 @@ history_whole c es [] k d lt = absurd (omega arith)
 history_whole c es (m ∷ zs) zero d lt = rounds_add_up (cause_of (origin.Trace (record { config = c; events = es })) m.0.device) m.0.arrival (live_round es m.0 - m.0.arrival)
 history_whole c es (m ∷ zs) (suc k) d lt = history_whole c es zs k d (omega arith)
 
-recording_whole : (r : Recorded) (zs : List ((List Request × Request) × ℕ)) → All IsWhole (map (λ (m : (List Request × Request) × ℕ). explained_request r m.0 m.1) zs)
+recording_whole : (r : Recorded) (zs : List ((List Request × Request) × (ℕ × ℕ))) → All IsWhole (map (λ (m : (List Request × Request) × (ℕ × ℕ)). explained_request r m.0 m.1) zs)
 unfolding explained_request
 recording_whole r [] k d lt = absurd (omega arith)
 recording_whole r (m ∷ zs) zero d lt = rounds_add_up (cause_of (origin.Recording r) m.0.1.device) m.0.1.arrival (m.0.1.sent - m.0.1.arrival)
 recording_whole r (m ∷ zs) (suc k) d lt = recording_whole r zs k d (omega arith)
 
-all_whole : (o : Origin) (best : List ℕ) → All IsWhole (explained o best)
+all_whole : (o : Origin) (pace best : List ℕ) → All IsWhole (explained o pace best)
 unfolding explained_stays explained_requests
-all_whole (origin.Trace past) best = history_whole past.config past.events (zip (stays_begun past.events) best)
-all_whole (origin.Recording r) best = recording_whole r (zip (prefixed r.requests) best)
+all_whole (origin.Trace past) pace best = history_whole past.config past.events (zip (stays_begun past.events) best)
+all_whole (origin.Recording r) pace best = recording_whole r (zip (prefixed r.requests) (zip pace best))
 
 -- a part of all stays adds up
-pub part_adds_up : (o : Origin) (best : List ℕ) → all_costs (part_of (explained o best)).costs ≡ (part_of (explained o best)).live
+pub part_adds_up : (o : Origin) (known : Known) (pace best : List ℕ) → all_costs (part_of known (explained o pace best)).costs ≡ (part_of known (explained o pace best)).live
 unfolding part_of
-part_adds_up o best = costs_each (explained o best) (all_whole o best)
+part_adds_up o known pace best = costs_each (explained o pace best) (all_whole o pace best)
 
 lives : (c : Topology) (es : List Event) (ps : List Passage) (bs : List ℕ) → length bs ≡ length ps → sum_by (measure Live) (map (λ (m : Passage × ℕ). explained_stay c es m.0 m.1) (zip ps bs)) ≡ sum_by (live_part c es) ps
 unfolding explained_stay live_part
@@ -211,9 +214,9 @@ lives c es (p ∷ ps) (b ∷ bs) same =
     ∙ sym (sum_by-cons (live_part c es) p ps)
 
 -- what all stays cost is the cost of the live schedule, where each stay was sent
-pub part_is_live : (c : Topology) (es : List Event) (best : List ℕ) → length best ≡ length (stays_begun es) → IfSome (live_cost c es) (λ cost. (part_of (explained_stays c es best)).live ≡ cost)
+pub part_is_live : (c : Topology) (es : List Event) (known : Known) (best : List ℕ) → length best ≡ length (stays_begun es) → IfSome (live_cost c es) (λ cost. (part_of known (explained_stays c es best)).live ≡ cost)
 unfolding part_of explained_stays
-part_is_live c es best same = elim (is_some (unsent es)) as (λ b. is_some (unsent es) ≡ b → IfSome (live_cost c es) (λ cost. (part_of (explained_stays c es best)).live ≡ cost)) [
+part_is_live c es known best same = elim (is_some (unsent es)) as (λ b. is_some (unsent es) ≡ b → IfSome (live_cost c es) (λ cost. (part_of known (explained_stays c es best)).live ≡ cost)) [
   | true ↦ λ e. rw (live_cost_unsent c es e) tt
   | false ↦ λ e. rw (live_cost_sent c es e) (lives c es (stays_begun es) best same)
 ] refl

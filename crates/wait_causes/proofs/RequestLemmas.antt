@@ -1,5 +1,5 @@
 -- the requests of a recording, one after the other
-use Rattle.std.proofs.Common.{◌≡◌, ℕ, zero, suc, ◌+◌, ◌<◌, List, [], ◌∷◌, ◌++◌, length, take, get_or, refl, sym, ap, ◌∙◌, arith, append_assoc, append-nil, None}
+use Rattle.std.proofs.Common.{◌≡◌, ℕ, zero, suc, ◌<◌, List, [], ◌∷◌, ◌++◌, length, take, get_or, refl, sym, ap, ◌∙◌, arith, append_assoc, append-nil, None}
 use Rattle.recording_file.specs.declared.request.Request.{Request}
 use Rattle.cam_types.specs.Lists.{prefixed, prefixed_after}
 
@@ -18,4 +18,4 @@ prefix_at xs n d e lt = prefixed_at [] xs n d e lt
 
 -- any request, as a default
 abbrev pub no_request : Request
-no_request = record { driver = 0; device = 0; priority = 0; arrival = 0; last = None; sent = 0 }
+no_request = record { driver = 0; device = 0; priority = 0; arrival = 0; last = None; sent = 0; done = None }

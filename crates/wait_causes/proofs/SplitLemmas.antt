@@ -12,7 +12,7 @@ use Rattle.round_net.specs.Instance.{Instance}
 use Rattle.wait_causes.specs.Words.{Topology, weight, live_round, stays_begun, Event, Passage, is_cause, WaitCause, Error, Caller, AdapterFrozen, DeviceStopped, AdapterStopped, LinkStopped, DeviceFull, AdapterFull, LinkFull, NotAsked}
 use Rattle.wait_causes.specs.Behind.{is_full, full_row, behind_row, behind_in, is_behind, behind_by, all_behind, Behind, LessUrgent, Equal, MoreUrgent}
 use Rattle.wait_causes.specs.BehindLaws.{IsSplit, IsSplitPart, BehindAddsUp}
-use Rattle.wait_causes.specs.Origins.{Origin, cause_of, instance_in, live_in}
+use Rattle.wait_causes.specs.Origins.{Origin, Known, known_of, cause_of, instance_in, live_in}
 use Rattle.wait_causes.specs.declared.origin.Origin.TheVariants as origin
 use Rattle.wait_causes.specs.Parts.{measure, part_of, costs_of, behind_costs, full_costs, all_behind_costs, Cost, Full}
 use Rattle.wait_causes.specs.Stays.{rounds_by, full_rounds, explained, explained_stay, explained_stays, explained_request, explained_requests, ExplainedStay}
@@ -72,7 +72,7 @@ history_split c es (m ∷ zs) zero d lt =
     rounds_split (instance_in o) (live_in o) (cause_of o) m.0.device (weight c m.0.priority) (range_with_len m.0.arrival (live_round es m.0 - m.0.arrival))
 history_split c es (m ∷ zs) (suc k) d lt = history_split c es zs k d (omega arith)
 
-recording_split : (r : Recorded) (zs : List ((List Request × Request) × ℕ)) → All IsSplit (map (λ (m : (List Request × Request) × ℕ). explained_request r m.0 m.1) zs)
+recording_split : (r : Recorded) (zs : List ((List Request × Request) × (ℕ × ℕ))) → All IsSplit (map (λ (m : (List Request × Request) × (ℕ × ℕ)). explained_request r m.0 m.1) zs)
 unfolding explained_request
 recording_split r [] k d lt = absurd (omega arith)
 recording_split r (m ∷ zs) zero d lt =
@@ -80,10 +80,10 @@ recording_split r (m ∷ zs) zero d lt =
     rounds_split (instance_in o) (live_in o) (cause_of o) m.0.1.device (weight r.config m.0.1.priority) (range_with_len m.0.1.arrival (m.0.1.sent - m.0.1.arrival))
 recording_split r (m ∷ zs) (suc k) d lt = recording_split r zs k d (omega arith)
 
-all_split : (o : Origin) (best : List ℕ) → All IsSplit (explained o best)
+all_split : (o : Origin) (pace best : List ℕ) → All IsSplit (explained o pace best)
 unfolding explained_stays explained_requests
-all_split (origin.Trace past) best = history_split past.config past.events (zip (stays_begun past.events) best)
-all_split (origin.Recording r) best = recording_split r (zip (prefixed r.requests) best)
+all_split (origin.Trace past) pace best = history_split past.config past.events (zip (stays_begun past.events) best)
+all_split (origin.Recording r) pace best = recording_split r (zip (prefixed r.requests) (zip pace best))
 
 -- a weight times each of three, all together
 weighed : (w a b c d e f : ℕ) → a + b + c ≡ d + e + f → w * a + w * b + w * c ≡ w * d + w * e + w * f
@@ -107,13 +107,13 @@ costs_split (x ∷ xs) all =
       sum_by-cons (measure (Cost LinkFull)) x xs,
     )
 
-part_split : (xs : List ExplainedStay) → All IsSplit xs → IsSplitPart (part_of xs)
+part_split : (known : Known) (xs : List ExplainedStay) → All IsSplit xs → IsSplitPart (part_of known xs)
 unfolding part_of
-part_split xs all = costs_split xs all
+part_split known xs all = costs_split xs all
 
 -- a part of all stays is split
-pub whole_split : (o : Origin) (best : List ℕ) → IsSplitPart (part_of (explained o best))
-whole_split o best = part_split (explained o best) (all_split o best)
+pub whole_split : (o : Origin) (pace best : List ℕ) → IsSplitPart (part_of (known_of o) (explained o pace best))
+whole_split o pace best = part_split (known_of o) (explained o pace best) (all_split o pace best)
 
 pub split_law : BehindAddsUp
-split_law o best = (all_split o best, λ by n. part_split (stays_of by (explained o best) n) (All-filter (λ s. number by s == n) IsSplit (explained o best) (all_split o best)))
+split_law o pace best = (all_split o pace best, λ by n. part_split (known_of o) (stays_of by (explained o pace best) n) (All-filter (λ s. number by s == n) IsSplit (explained o pace best) (all_split o pace best)))

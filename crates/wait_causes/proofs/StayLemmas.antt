@@ -1,5 +1,5 @@
 -- what stands in the row of a stay, and how many rounds have each cause
-use Rattle.std.proofs.Common.{◌≡◌, ℕ, zero, suc, ◌+◌, ◌-◌, ◌<◌, ◌≤◌, true, List, [], ◌∷◌, ◌++◌, map, length, take, get_or, refl, sym, ap, ◌∙◌, arith, zip, All}
+use Rattle.std.proofs.Common.{◌≡◌, ℕ, zero, suc, ◌+◌, ◌<◌, ◌≤◌, true, List, [], ◌∷◌, ◌++◌, map, length, take, get_or, refl, sym, ap, ◌∙◌, arith, zip, All, None}
 use mathlib.Core.Path.{Path}
 use Rattle.std.specs.List.{range_with_len}
 use Rattle.std.specs.Option.{option_map_or}
@@ -11,7 +11,7 @@ use Rattle.wait_causes.specs.Words.{Topology, device_adapter, weight, run_level,
 use Rattle.event_rules.proofs.RangeLemmas.{stays_in_range}
 use Rattle.event_rules.proofs.ListFacts.{count_by-push, range_with_len-push}
 use Rattle.wait_causes.specs.Behind.{no_behind, FullBehind}
-use Rattle.wait_causes.specs.Stays.{rounds_by, all_rounds, no_rounds, with_round, counted, explained_stay, explained_stays, row_by, sent_in, ExplainedStay}
+use Rattle.wait_causes.specs.Stays.{rounds_by, all_rounds, no_rounds, with_round, counted, explained_stay, explained_stays, paces, row_by, sent_in, ExplainedStay}
 use Rattle.wait_causes.specs.declared.origin.Origin.TheVariants as origin
 use Rattle.wait_causes.specs.declared.explained_stay.CauseRounds.{CauseRounds}
 use Rattle.round_net.proofs.FoundLemmas.{live_cases}
@@ -63,7 +63,10 @@ pub row_of_parts : (c : Topology) (es : List Event) (r : StayRecord) (best drive
       weight = w;
       arrival = r.stay.arrival;
       live = live;
+      pace = None;
       best = best;
+      last = None;
+      done = None;
       rounds = rounds;
       behind = behind;
     }) (row_by c es (r, best))
@@ -98,15 +101,15 @@ unfolding records
 length-records es = length-map (stays_begun es) (record_of es)
 
 -- the rows of the stays so far, and one more
-pub zip_push : {K R : Type 0} (f : K × ℕ → R) (ks : List K) (vs : List ℕ) (i : ℕ) (rows new : List R) (r : R) (k : K) (v : ℕ) → rows ≡ map f (take i (zip ks vs)) → new ≡ rows ++ r ∷ [] → r ≡ f (get_or ks i k, v) → v ≡ get_or vs i 0 → i < length ks → i < length vs → new ≡ map f (take (i + 1) (zip ks vs))
-zip_push {K} {R} f ks vs i rows new r k v was is here at lt lt' =
-    let d : K × ℕ = (k, 0) in
+pub zip_push : {K V R : Type 0} (f : K × V → R) (ks : List K) (vs : List V) (i : ℕ) (rows new : List R) (r : R) (k : K) (v d : V) → rows ≡ map f (take i (zip ks vs)) → new ≡ rows ++ r ∷ [] → r ≡ f (get_or ks i k, v) → v ≡ get_or vs i d → i < length ks → i < length vs → new ≡ map f (take (i + 1) (zip ks vs))
+zip_push {K} {V} {R} f ks vs i rows new r k v d was is here at lt lt' =
+    let e : K × V = (k, d) in
     let within : i < length (zip ks vs) = rw (length-zip ks vs) (omega arith) in
     is ∙ rw (was, here, at) refl
-    ∙ sym (ap (map f) (take_more (zip ks vs) i d within ∙ ap (λ m. take i (zip ks vs) ++ m ∷ []) (get_or-zip ks vs i d lt lt'))
-    ∙ map-append f (take i (zip ks vs)) ((get_or ks i k, get_or vs i 0) ∷ []))
+    ∙ sym (ap (map f) (take_more (zip ks vs) i e within ∙ ap (λ m. take i (zip ks vs) ++ m ∷ []) (get_or-zip ks vs i e lt lt'))
+    ∙ map-append f (take i (zip ks vs)) ((get_or ks i k, get_or vs i d) ∷ []))
 
-pub zip_all : {K R : Type 0} (f : K × ℕ → R) (ks : List K) (vs : List ℕ) (i : ℕ) → length vs ≡ length ks → length ks ≤ i → map f (take i (zip ks vs)) ≡ map f (zip ks vs)
+pub zip_all : {K V R : Type 0} (f : K × V → R) (ks : List K) (vs : List V) (i : ℕ) → length vs ≡ length ks → length ks ≤ i → map f (take i (zip ks vs)) ≡ map f (zip ks vs)
 zip_all f ks vs i same le = ap (map f) (take_all i (zip ks vs) (rw (length-zip ks vs) (omega arith)))
 
 bests : (c : Topology) (es : List Event) (zs : List (Passage × ℕ)) → map (λ (s : ExplainedStay). s.best) (map (λ (m : Passage × ℕ). explained_stay c es m.0 m.1) zs) ≡ map (λ (m : Passage × ℕ). m.1) zs
@@ -117,3 +120,13 @@ bests c es (m ∷ zs) = ap (λ ns. m.1 ∷ ns) (bests c es zs)
 pub best_kept : (c : Topology) (es : List Event) (best : List ℕ) → length best ≡ length (stays_begun es) → map (λ (s : ExplainedStay). s.best) (explained_stays c es best) ≡ best
 unfolding explained_stays
 best_kept c es best all = bests c es (zip (stays_begun es) best) ∙ seconds-zip (stays_begun es) best all
+
+-- a history has no pace
+no_paces : (c : Topology) (es : List Event) (zs : List (Passage × ℕ)) → paces (map (λ (m : Passage × ℕ). explained_stay c es m.0 m.1) zs) ≡ []
+unfolding explained_stay
+no_paces c es [] = refl
+no_paces c es (m ∷ zs) = no_paces c es zs
+
+pub pace_kept : (c : Topology) (es : List Event) (best : List ℕ) → paces (explained_stays c es best) ≡ []
+unfolding explained_stays
+pace_kept c es best = no_paces c es (zip (stays_begun es) best)

@@ -6,6 +6,7 @@ use Rattle.std.proofs.lemmas.Bool.{eqb-true}
 use Rattle.std.proofs.lemmas.List.Elements.{filter-append}
 use Rattle.std.proofs.lemmas.List.FromFn.{get_or-map-range_with_len, length-map-range_with_len}
 use Rattle.wait_causes.proofs.CountingLemmas.{list_at, lists_length}
+use Rattle.wait_causes.specs.Origins.{Known}
 use Rattle.wait_causes.specs.Parts.{part_of, Part}
 use Rattle.wait_causes.specs.Tables.{number, stays_of, row_for, row_of, greatest, table_of, AreGroups, Grouping}
 use Rattle.wait_causes.proofs.PartLemmas.{no_longer}
@@ -13,21 +14,21 @@ use Rattle.wait_causes.specs.Stays.{ExplainedStay}
 use Rattle.wait_causes.specs.declared.table.Row as table
 
 -- no stays have no row
-pub row_none : (part : List ExplainedStay) (n : ℕ) (rows : List table.Row) → (length part == 0) ≡ true → rows ≡ rows ++ row_for n part
+pub row_none : (known : Known) (part : List ExplainedStay) (n : ℕ) (rows : List table.Row) → (length part == 0) ≡ true → rows ≡ rows ++ row_for known n part
 unfolding row_for
-row_none part n rows none = rw none (sym (append-nil rows))
+row_none known part n rows none = rw none (sym (append-nil rows))
 
 -- some have one
-pub row_some : (part : List ExplainedStay) (n : ℕ) (rows new : List table.Row) (p : Part) → p ≡ part_of part → (length part == 0) ≡ false → new ≡ rows ++ record { number = n; part = p } ∷ [] → new ≡ rows ++ row_for n part
+pub row_some : (known : Known) (part : List ExplainedStay) (n : ℕ) (rows new : List table.Row) (p : Part) → p ≡ part_of known part → (length part == 0) ≡ false → new ≡ rows ++ record { number = n; part = p } ∷ [] → new ≡ rows ++ row_for known n part
 unfolding row_for
-row_some part n rows new p is some push = push ∙ rw (some, is) refl
+row_some known part n rows new p is some push = push ∙ rw (some, is) refl
 
 pub few_of : (by : Grouping) (stays : List ExplainedStay) (n most : ℕ) → length stays ≤ most → length (stays_of by stays n) ≤ most
 few_of by stays n most few = omega (arith, no_longer (λ s. number by s == n) stays)
 
-pub table_end : (by : Grouping) (stays : List ExplainedStay) (rows : List table.Row) (n : ℕ) → rows ≡ flat_map (row_of by stays) (range_with_len 0 n) → n ≡ greatest by stays + 1 → rows ≡ table_of by stays
+pub table_end : (known : Known) (by : Grouping) (stays : List ExplainedStay) (rows : List table.Row) (n : ℕ) → rows ≡ flat_map (row_of known by stays) (range_with_len 0 n) → n ≡ greatest by stays + 1 → rows ≡ table_of known by stays
 unfolding table_of
-table_end by stays rows n is at = is ∙ ap (λ k. flat_map (row_of by stays) (range_with_len 0 k)) at
+table_end known by stays rows n is at = is ∙ ap (λ k. flat_map (row_of known by stays) (range_with_len 0 k)) at
 
 -- ---- the groups so far, and one stay more
 

@@ -1,7 +1,7 @@
 -- what stays waited behind, and the rounds in which rows were full
 use Rattle.std.specs.Prelude.{◌≡◌, ℕ, List, All}
 use Rattle.wait_causes.specs.Behind.{all_behind}
-use Rattle.wait_causes.specs.Origins.{Origin}
+use Rattle.wait_causes.specs.Origins.{Origin, known_of}
 use Rattle.wait_causes.specs.Parts.{part_of, full_costs, all_behind_costs, Part}
 use Rattle.wait_causes.specs.Stays.{explained, full_rounds, ExplainedStay}
 use Rattle.wait_causes.specs.Tables.{stays_of, Grouping}
@@ -15,5 +15,5 @@ IsSplitPart p = all_behind_costs p.behind ≡ full_costs p.costs
 
 -- so it is of each stay of an input, and of each part of a table
 abbrev pub BehindAddsUp : Type 0
-BehindAddsUp = (o : Origin) (best : List ℕ) →
-    All IsSplit (explained o best) × ((by : Grouping) (n : ℕ) → IsSplitPart (part_of (stays_of by (explained o best) n)))
+BehindAddsUp = (o : Origin) (pace best : List ℕ) →
+    All IsSplit (explained o pace best) × ((by : Grouping) (n : ℕ) → IsSplitPart (part_of (known_of o) (stays_of by (explained o pace best) n)))

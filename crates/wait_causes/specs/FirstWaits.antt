@@ -1,5 +1,5 @@
 -- the first waits of a stay, and how many there are after them
-use Rattle.std.specs.Prelude.{◌≡◌, ℕ, ◌+◌, ◌-◌, ◌==◌, ◌<◌, ◌≤◌, Bool, true, not, ◌||◌, if◌then◌else◌, List, length, count_by, get_or}
+use Rattle.std.specs.Prelude.{◌≡◌, ℕ, ◌+◌, ◌-◌, ◌==◌, ◌<◌, ◌≤◌, Bool, true, not, ◌||◌, if◌then◌else◌, length, count_by, get_or}
 use Rattle.std.specs.List.{range_with_len}
 use Rattle.wait_causes.specs.Words.{is_cause, WaitCause}
 use Rattle.wait_causes.specs.Origins.{Origin, cause_of, instance_in}
@@ -52,7 +52,9 @@ pub record AreRuns (cause : ℕ → WaitCause) (rounds : ℕ) (runs : DeviceRuns
   pub lasts : (k : ℕ) → k < rounds → IsLast cause rounds (k + 1) (get_or runs.lasts.items k 0)
   pub changes : (k : ℕ) → k < rounds → get_or runs.changes.items k 0 ≡ count_by (has_changed cause) (range_with_len 2 k)
 
--- those of each device
+-- those of each device, and how many devices and rounds there are
 pub record AreRunsOf (o : Origin) (runs : CauseRuns) : Type 0 where
+  pub count : runs.count ≡ (instance_in o).devices
+  pub rounds : runs.rounds ≡ (instance_in o).rounds
   pub all : length runs.devices.items ≡ (instance_in o).devices
   pub each : (d : ℕ) (x : DeviceRuns) → d < (instance_in o).devices → AreRuns (cause_of o d) (instance_in o).rounds (get_or runs.devices.items d x)

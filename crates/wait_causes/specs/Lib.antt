@@ -11,8 +11,11 @@ pub mod Stays
 pub mod Explained
 pub mod Waits
 pub mod Sound
+pub mod Ranks
+pub mod Latencies
 pub mod Parts
 pub mod Tables
+pub mod Limits
 pub mod TableLaws
 pub mod Freezes
 pub mod FreezeLaws

@@ -3,6 +3,7 @@ use Rattle.std.specs.Prelude.{◌≡◌, ℕ, Bool, false, List, Option, sum_by,
 use Rattle.std.specs.Option.{option_map_or}
 use Rattle.recording_file.specs.Names.{NameValue}
 use Rattle.recording_file.specs.declared.name.NameKind.{NameKind}
+use Rattle.wait_causes.specs.Origins.{Known}
 use Rattle.wait_causes.specs.Tables.{table_of}
 use Rattle.wait_causes.specs.declared.explained_stay.ExplainedStay.{ExplainedStay}
 use Rattle.wait_causes.specs.declared.table.Grouping.{Grouping}
@@ -22,13 +23,13 @@ passes test row = option_map_or test row false
 -- in the table after. These have together what all stays have (RowsAddUp): so the differences of pairs add up to that of the
 -- wholes.
 abbrev pub PairsAddUp : Type 0
-PairsAddUp = (kind : Option NameKind) (was now : List NameValue) (by : Grouping) (before after : List ExplainedStay) (amount : Row → ℕ) →
-    (sum_by (λ (pair : PairedRow). amount_in amount pair.before) (paired (is_pair kind was now) (table_of by before) (table_of by after)) ≡ sum_by amount (table_of by before))
-    × (sum_by (λ (pair : PairedRow). amount_in amount pair.after) (paired (is_pair kind was now) (table_of by before) (table_of by after)) ≡ sum_by amount (table_of by after))
+PairsAddUp = (kind : Option NameKind) (was now : List NameValue) (by : Grouping) (known known_after : Known) (before after : List ExplainedStay) (amount : Row → ℕ) →
+    (sum_by (λ (pair : PairedRow). amount_in amount pair.before) (paired (is_pair kind was now) (table_of known by before) (table_of known_after by after)) ≡ sum_by amount (table_of known by before))
+    × (sum_by (λ (pair : PairedRow). amount_in amount pair.after) (paired (is_pair kind was now) (table_of known by before) (table_of known_after by after)) ≡ sum_by amount (table_of known_after by after))
 
 -- As many rows before pass a test in pairs as in the table before, and as many after as in the table after: so each row of a
 -- table stands in exactly one pair.
 abbrev pub RowsPairOnce : Type 0
-RowsPairOnce = (kind : Option NameKind) (was now : List NameValue) (by : Grouping) (before after : List ExplainedStay) (test : Row → Bool) →
-    (count_by (λ (pair : PairedRow). passes test pair.before) (paired (is_pair kind was now) (table_of by before) (table_of by after)) ≡ count_by test (table_of by before))
-    × (count_by (λ (pair : PairedRow). passes test pair.after) (paired (is_pair kind was now) (table_of by before) (table_of by after)) ≡ count_by test (table_of by after))
+RowsPairOnce = (kind : Option NameKind) (was now : List NameValue) (by : Grouping) (known known_after : Known) (before after : List ExplainedStay) (test : Row → Bool) →
+    (count_by (λ (pair : PairedRow). passes test pair.before) (paired (is_pair kind was now) (table_of known by before) (table_of known_after by after)) ≡ count_by test (table_of known by before))
+    × (count_by (λ (pair : PairedRow). passes test pair.after) (paired (is_pair kind was now) (table_of known by before) (table_of known_after by after)) ≡ count_by test (table_of known_after by after))

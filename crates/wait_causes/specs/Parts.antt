@@ -1,17 +1,19 @@
 -- what some stays waited, and what that cost
-use Rattle.std.specs.Prelude.{ℕ, ◌+◌, ◌-◌, ◌*◌, ◌≤◌, Bool, nat_le, List, [], ◌∷◌, length, map, count_by, sum_by, find, unwrap_or, All}
-use Rattle.std.specs.List.{range_with_len}
+use Rattle.std.specs.Prelude.{ℕ, ◌+◌, ◌-◌, ◌*◌, ◌≤◌, List, [], ◌∷◌, length, map, sum_by, All, if◌then◌else◌, Some, None}
+use Rattle.std.specs.Option.{option_map_or}
 use Rattle.cam_types.specs.declared.limits.TheConstants.{MAX_WEIGHT}
 use Rattle.wait_causes.specs.Words.{MAX_NET_ROUNDS, WaitCause, Error, Caller, AdapterFrozen, DeviceStopped, AdapterStopped, LinkStopped, DeviceFull, AdapterFull, LinkFull, NotAsked}
 use Rattle.wait_causes.specs.declared.explained_stay.CauseRounds.{CauseRounds}
 use Rattle.wait_causes.specs.Behind.{Behind, LessUrgent, Equal, MoreUrgent, FullBehind}
+use Rattle.wait_causes.specs.Latencies.{latency_of}
+use Rattle.wait_causes.specs.Ranks.{rank_below}
 use Rattle.wait_causes.specs.Stays.{ExplainedStay}
-use Rattle.wait_causes.specs.Origins.{Origin}
+use Rattle.wait_causes.specs.Origins.{Origin, Known}
 use Rattle.wait_causes.specs.declared.origin.Origin.TheVariants as origin
 pub use Rattle.wait_causes.specs.declared.kind.InputKind.{InputKind}
 use Rattle.wait_causes.specs.declared.kind.InputKind.TheVariants.{Trace, Recording}
 pub use Rattle.wait_causes.specs.declared.part.Measure.{Measure}
-pub use Rattle.wait_causes.specs.declared.part.Measure.TheVariants.{Waited, Live, Best, Cost, Full}
+pub use Rattle.wait_causes.specs.declared.part.Measure.TheVariants.{Waited, Live, Pace, Best, Cost, Full}
 use Rattle.wait_causes.specs.declared.part.CauseCosts.{CauseCosts}
 use Rattle.wait_causes.specs.declared.part.BehindCosts.{BehindCosts}
 pub use Rattle.wait_causes.specs.declared.part.Part.{Part}
@@ -39,10 +41,15 @@ behind_for MoreUrgent n = n.more_urgent
 abbrev pub waited : ExplainedStay → ℕ
 waited s = s.live - s.arrival
 
--- its rounds, its weighted rounds, those of the other schedule, those of a cause, and those behind others
+-- the rounds that it waits at the recorded pace, if they are known
+abbrev pub waited_at_pace : ExplainedStay → ℕ
+waited_at_pace s = option_map_or (λ pace. pace - s.arrival) s.pace 0
+
+-- its rounds, its weighted rounds, those at the recorded pace, those of the best schedule, those of a cause, and those behind others
 abbrev pub measure : Measure → ExplainedStay → ℕ
 measure Waited s = waited s
 measure Live s = s.weight * waited s
+measure Pace s = s.weight * waited_at_pace s
 measure Best s = s.weight * (s.best - s.arrival)
 measure (Cost cause) s = s.weight * rounds_for cause s.rounds
 measure (Full behind) s = s.weight * behind_for behind s.behind
@@ -52,13 +59,9 @@ abbrev pub kind_of : Origin → InputKind
 kind_of (origin.Trace past) = Trace
 kind_of (origin.Recording r) = Recording
 
--- that many in a thousand of these rounds are no more than this
-abbrev pub is_enough : ℕ → List ℕ → ℕ → Bool
-is_enough thousandths waits n = nat_le (thousandths * length waits) (1000 * count_by (λ wait. nat_le wait n) waits)
-
 -- nearest rank: the least number of rounds that is enough; no input has more rounds than these
-unfoldable pub rank_of : ℕ → List ℕ → ℕ
-rank_of thousandths waits = unwrap_or (find (is_enough thousandths waits) (range_with_len 0 MAX_NET_ROUNDS)) 0
+abbrev pub rank_of : ℕ → List ℕ → ℕ
+rank_of thousandths waits = rank_below MAX_NET_ROUNDS thousandths waits
 
 abbrev pub nearest_rank : ℕ → List ExplainedStay → ℕ
 nearest_rank thousandths stays = rank_of thousandths (map waited stays)
@@ -130,9 +133,9 @@ full_costs n = n.device_full + n.adapter_full + n.link_full
 abbrev pub all_behind_costs : BehindCosts → ℕ
 all_behind_costs n = n.less_urgent + n.equal + n.more_urgent
 
--- what these stays waited, and what that cost
-unfoldable pub part_of : List ExplainedStay → Part
-part_of stays = record {
+-- what these stays waited, and what that cost; the pace and the latency are there only if the input says them
+unfoldable pub part_of : Known → List ExplainedStay → Part
+part_of known stays = record {
   stays = length stays;
   waited = sum_by (measure Waited) stays;
   p50 = nearest_rank 500 stays;
@@ -141,7 +144,9 @@ part_of stays = record {
   p999 = nearest_rank 999 stays;
   max = nearest_rank 1000 stays;
   live = sum_by (measure Live) stays;
+  pace = if known.pace then Some (sum_by (measure Pace) stays) else None;
   best = sum_by (measure Best) stays;
   costs = costs_of stays;
   behind = behind_costs stays;
+  latency = if known.completions then Some (latency_of stays) else None;
 }

@@ -10,9 +10,10 @@ abbrev pub IsLegalOf : Origin → Type 0
 IsLegalOf (origin.Trace past) = IsTrue (is_legal history_rules past.config past.events)
 IsLegalOf (origin.Recording r) = Unit {0}
 
--- the stays are those of a history or a recording with a sound net, and of a schedule with a round for each of them
-pub record IsExplained (o : Origin) (best : List ℕ) (stays : List ExplainedStay) : Type 0 where
+-- the stays are those of a history or a recording with a sound net, and of schedules, the last of which has a round for each of
+-- them
+pub record IsExplained (o : Origin) (pace best : List ℕ) (stays : List ExplainedStay) : Type 0 where
   pub legal : IsLegalOf o
   pub sound : IsSound (instance_in o) (live_in o)
   pub all : length best ≡ (instance_in o).stays
-  pub rows : stays ≡ explained o best
+  pub rows : stays ≡ explained o pace best

@@ -1,6 +1,6 @@
--- the stays of a history or a recording, each with the causes of its waiting, beside another schedule
-use Rattle.std.specs.Prelude.{ℕ, ◌+◌, ◌-◌, List, length, map, zip, count_by, unwrap_or}
-use Rattle.std.specs.List.{range_with_len}
+-- the stays of a history or a recording, each with the causes of its waiting, beside other schedules
+use Rattle.std.specs.Prelude.{ℕ, ◌+◌, ◌-◌, List, length, map, zip, count_by, unwrap_or, Some, None}
+use Rattle.std.specs.List.{filter_map, range_with_len}
 use Rattle.std.specs.Option.{option_map_or}
 use Rattle.cam_types.specs.Lists.{prefixed}
 use Rattle.recording_file.specs.Recorded.{Recorded}
@@ -43,7 +43,7 @@ rounds_waited o d arrival live = rounds_by (map (cause_of o d) (range_with_len a
 abbrev pub behind_waited : Origin → ℕ → ℕ → ℕ → ℕ → FullBehind
 behind_waited o d w arrival live = behind_by (map (behind_in (instance_in o) (live_in o) (cause_of o) d w) (range_with_len arrival (live - arrival)))
 
--- a stay of a history, and the round in which the other schedule sends it
+-- a stay of a history, and the round in which the best schedule sends it
 unfoldable pub explained_stay : Topology → List Event → Passage → ℕ → ExplainedStay
 explained_stay c events p best = record {
   ccb = p.ccb;
@@ -56,19 +56,23 @@ explained_stay c events p best = record {
   weight = weight c p.priority;
   arrival = p.arrival;
   live = live_round events p;
+  pace = None;
   best = best;
+  last = None;
+  done = None;
   rounds = rounds_waited (origin.Trace (record { config = c; events = events })) p.device p.arrival (live_round events p);
   behind = behind_waited (origin.Trace (record { config = c; events = events })) p.device (weight c p.priority) p.arrival (live_round events p);
 }
 
--- all stays in creation order, each beside its round of that schedule
+-- all stays in creation order, each beside that round
 unfoldable pub explained_stays : Topology → List Event → List ℕ → List ExplainedStay
 explained_stays c events best =
     map (λ (m : Passage × ℕ). explained_stay c events m.0 m.1) (zip (stays_begun events) best)
 
--- a request of a recording beside those before it, and the round in which the other schedule starts it
-unfoldable pub explained_request : Recorded → List Request × Request → ℕ → ExplainedStay
-explained_request r m best = record {
+-- a request of a recording beside those before it, and the rounds in which the best schedule at the recorded pace starts it, and
+-- the best one
+unfoldable pub explained_request : Recorded → List Request × Request → ℕ × ℕ → ExplainedStay
+explained_request r m others = record {
   ccb = length m.0;
   attempt = 0;
   driver = m.1.driver;
@@ -79,20 +83,27 @@ explained_request r m best = record {
   weight = weight r.config m.1.priority;
   arrival = m.1.arrival;
   live = m.1.sent;
-  best = best;
+  pace = Some others.0;
+  best = others.1;
+  last = m.1.last;
+  done = m.1.done;
   rounds = rounds_waited (origin.Recording r) m.1.device m.1.arrival m.1.sent;
   behind = behind_waited (origin.Recording r) m.1.device (weight r.config m.1.priority) m.1.arrival m.1.sent;
 }
 
--- all requests in the order of the text
-unfoldable pub explained_requests : Recorded → List ℕ → List ExplainedStay
-explained_requests r best =
-    map (λ (m : (List Request × Request) × ℕ). explained_request r m.0 m.1) (zip (prefixed r.requests) best)
+-- all requests in the order of the text, each beside these rounds
+unfoldable pub explained_requests : Recorded → List ℕ → List ℕ → List ExplainedStay
+explained_requests r pace best =
+    map (λ (m : (List Request × Request) × (ℕ × ℕ)). explained_request r m.0 m.1) (zip (prefixed r.requests) (zip pace best))
 
--- the stays of either
-abbrev pub explained : Origin → List ℕ → List ExplainedStay
-explained (origin.Trace past) best = explained_stays past.config past.events best
-explained (origin.Recording r) best = explained_requests r best
+-- the stays of either; a history has no pace
+abbrev pub explained : Origin → List ℕ → List ℕ → List ExplainedStay
+explained (origin.Trace past) pace best = explained_stays past.config past.events best
+explained (origin.Recording r) pace best = explained_requests r pace best
+
+-- the rounds at the recorded pace of the stays that have one
+abbrev pub paces : List ExplainedStay → List ℕ
+paces stays = filter_map (λ (s : ExplainedStay). s.pace) stays
 
 -- no rounds, one more of a cause, and those that aren't among earlier ones
 abbrev pub no_rounds : CauseRounds
@@ -145,14 +156,17 @@ row_by c events (r, best) = record {
   weight = weight c r.stay.priority;
   arrival = r.stay.arrival;
   live = sent_in events r;
+  pace = None;
   best = best;
+  last = None;
+  done = None;
   rounds = no_rounds;
   behind = no_behind;
 }
 
 -- a request, uncounted
-unfoldable pub request_by : Topology → (List Request × Request) × ℕ → ExplainedStay
-request_by c (m, best) = record {
+unfoldable pub request_by : Topology → (List Request × Request) × (ℕ × ℕ) → ExplainedStay
+request_by c (m, others) = record {
   ccb = length m.0;
   attempt = 0;
   driver = m.1.driver;
@@ -163,7 +177,10 @@ request_by c (m, best) = record {
   weight = weight c m.1.priority;
   arrival = m.1.arrival;
   live = m.1.sent;
-  best = best;
+  pace = Some others.0;
+  best = others.1;
+  last = m.1.last;
+  done = m.1.done;
   rounds = no_rounds;
   behind = no_behind;
 }

@@ -2,6 +2,7 @@
 use Rattle.std.specs.Prelude.{◌≡◌, ℕ, ◌+◌, ◌==◌, max, if◌then◌else◌, List, [], ◌∷◌, filter, flat_map, fold, length, map, Vec}
 use Rattle.std.specs.Global.{Global}
 use Rattle.std.specs.List.{range_with_len}
+use Rattle.wait_causes.specs.Origins.{Known}
 use Rattle.wait_causes.specs.Parts.{part_of}
 use Rattle.wait_causes.specs.Stays.{ExplainedStay}
 pub use Rattle.wait_causes.specs.declared.table.Grouping.{Grouping}
@@ -20,20 +21,20 @@ abbrev pub stays_of : Grouping → List ExplainedStay → ℕ → List Explained
 stays_of by stays n = filter (λ s. number by s == n) stays
 
 -- the row of some stays, if there are some
-unfoldable pub row_for : ℕ → List ExplainedStay → List table.Row
-row_for n part = if length part == 0 then [] else record { number = n; part = part_of part } ∷ []
+unfoldable pub row_for : Known → ℕ → List ExplainedStay → List table.Row
+row_for known n part = if length part == 0 then [] else record { number = n; part = part_of known part } ∷ []
 
 -- the row of a number, if it has a stay
-abbrev pub row_of : Grouping → List ExplainedStay → ℕ → List table.Row
-row_of by stays n = row_for n (stays_of by stays n)
+abbrev pub row_of : Known → Grouping → List ExplainedStay → ℕ → List table.Row
+row_of known by stays n = row_for known n (stays_of by stays n)
 
 -- the greatest number of some stays, and 0 of none
 unfoldable pub greatest : Grouping → List ExplainedStay → ℕ
 greatest by stays = fold (λ n s. max n (number by s)) 0 stays
 
 -- the rows in ascending order
-unfoldable pub table_of : Grouping → List ExplainedStay → List table.Row
-table_of by stays = flat_map (row_of by stays) (range_with_len 0 (greatest by stays + 1))
+unfoldable pub table_of : Known → Grouping → List ExplainedStay → List table.Row
+table_of known by stays = flat_map (row_of known by stays) (range_with_len 0 (greatest by stays + 1))
 
 -- each of that many numbers has the list of its stays
 abbrev pub AreGroups : Grouping → ℕ → List ExplainedStay → List (Vec ExplainedStay Global) → Type 0

@@ -15,10 +15,13 @@ pub struct DeviceRuns {
     pub(crate) changes: Vec<u32>,
 }
 
-/// The runs of each device, from which the first waits of a stay are found without a look at each round.
+/// The runs of each device, from which the first waits of a stay are found without a look at each round, and how many devices
+/// and rounds there are.
 #[derive(Drop)]
 pub struct CauseRuns {
     pub(crate) devices: Vec<DeviceRuns>,
+    pub(crate) count: u32,
+    pub(crate) rounds: u32,
 }
 
 impl CauseRuns {
@@ -39,7 +42,11 @@ impl CauseRuns {
         for device in 0..devices {
             runs.push(runs_of(alloc, origin, device, rounds)?)?;
         }
-        Ok(CauseRuns { devices: runs })
+        Ok(CauseRuns {
+            devices: runs,
+            count: devices,
+            rounds,
+        })
     }
 }
 

@@ -1,7 +1,8 @@
 //! A stay with the causes of its waiting.
 
 ghost use Rattle.std.specs.Prelude.{◌≡◌, ◌+◌, ◌<◌, ◌≤◌, ◌^◌};
-ghost use Rattle.wait_causes.specs.Parts.{rounds_for, waited, measure, Live};
+ghost use Rattle.wait_causes.specs.Parts.{rounds_for, waited, waited_at_pace, measure, Live};
+ghost use Rattle.wait_causes.specs.Latencies.{latency};
 ghost use Rattle.wait_causes.specs.Stays.{with_round, all_rounds, no_rounds, rounds_since};
 
 use crate::behind::FullBehind;
@@ -107,7 +108,7 @@ impl CauseRounds {
     }
 }
 
-/// A stay, where it was sent, and where another schedule sends it.
+/// A stay, where it was sent, and where other schedules send it.
 #[derive(Clone, Copy, Debug, PartialEq, Eq)]
 pub struct ExplainedStay {
     /// The number of its CCB; of a recording that of the request, from 0.
@@ -130,8 +131,14 @@ pub struct ExplainedStay {
     pub arrival: u32,
     /// The round in which it was sent; the last round of all if it wasn't.
     pub live: u32,
-    /// The round in which the other schedule sends it.
+    /// The round in which the best schedule at the recorded pace sends it; none of a trace.
+    pub pace: Option<u32>,
+    /// The round in which the best schedule sends it.
     pub best: u32,
+    /// The last round in which it could have been sent, if a recording says it.
+    pub last: Option<u32>,
+    /// The round in which it was completed, if a recording says it. It may be after the last round.
+    pub done: Option<u32>,
     /// How many rounds it waited for each cause, `live - arrival` together.
     pub rounds: CauseRounds,
     /// How many of these in which a row was full, by what that row sent.
@@ -144,6 +151,26 @@ impl ExplainedStay {
         ensures { result ≡ waited self.now }
     {
         self.live.saturating_sub(self.arrival)
+    }
+
+    /// The rounds that it waits at the recorded pace, if they are known.
+    pub(crate) fn waited_at_pace(&self) -> u32
+        ensures { result ≡ waited_at_pace self.now }
+    {
+        match self.pace {
+            Some(pace) => pace.saturating_sub(self.arrival),
+            None => 0,
+        }
+    }
+
+    /// The rounds from the one of its arrival to that of its completion, if that is known.
+    pub fn latency(&self) -> Option<u32>
+        ensures { result ≡ latency self.now }
+    {
+        match self.done {
+            Some(done) => Some(done.saturating_sub(self.arrival)),
+            None => None,
+        }
     }
 
     /// The weighted rounds that it waited.

@@ -49,7 +49,10 @@ fn explain(table: &RoundTable, kept: &StayRecord, best: u32) -> ExplainedStay
         weight: config.weight(stay.priority) as u16,
         arrival: stay.arrival,
         live,
+        pace: None,
         best,
+        last: None,
+        done: None,
         rounds: CauseRounds::none(),
         behind: FullBehind::none(),
     }

@@ -1,6 +1,8 @@
 //! What is explained: a history, by its trace, or a recording.
 
+use crate::known::Known;
 use crate::recorded::RecordedRounds;
+use cam_types::Config;
 use recording_file::{Name, Span};
 use round_net::{RoundTable, WaitCause};
 
@@ -15,7 +17,7 @@ pub enum Origin {
 
 impl Origin {
     ghost use Rattle.std.specs.Prelude.{◌≡◌, ◌<◌, ◌≤◌};
-    ghost use Rattle.wait_causes.specs.Origins.{instance_in, cause_of, names_in, unit_in};
+    ghost use Rattle.wait_causes.specs.Origins.{instance_in, cause_of, config_in, names_in, unit_in, known_of};
 
     /// Why the stays of the device waited in the round.
     pub(crate) fn cause(&self, device: u32, round: u32) -> WaitCause
@@ -29,6 +31,17 @@ impl Origin {
             Origin::Recording(rounds) => rounds.cause(device, round),
         }
     }
+
+    /// The adapters, devices, links and weights.
+    pub(crate) fn config(&self) -> &Config
+        ensures { result.now ≡ config_in self.now }
+    {
+        match self {
+            Origin::Trace(table) => table.end().devices().config(),
+            Origin::Recording(rounds) => rounds.config(),
+        }
+    }
+
     /// What people call the drivers, devices, adapters and links.
     pub(crate) fn names(&self) -> &[Name]
         ensures { result.now ≡ names_in self.now }
@@ -36,6 +49,22 @@ impl Origin {
         match self {
             Origin::Trace(_) => &[],
             Origin::Recording(rounds) => rounds.names(),
+        }
+    }
+
+    /// What it says of its stays beside where they were sent.
+    pub(crate) fn known(&self) -> Known
+        ensures { result ≡ known_of self.now }
+    {
+        match self {
+            Origin::Trace(_) => Known {
+                pace: false,
+                completions: false,
+            },
+            Origin::Recording(rounds) => Known {
+                pace: true,
+                completions: rounds.completions(),
+            },
         }
     }
 

@@ -1,13 +1,17 @@
 //! What some stays waited, and what that cost.
 
-ghost use Rattle.std.specs.Prelude.{◌≡◌, ◌≤◌, ◌*◌, ◌-ℤ◌, ℕ, pos, length, map, sum_by, count_by, nat_le, IfOk};
+ghost use Rattle.std.specs.Prelude.{◌≡◌, ◌≤◌, ◌-ℤ◌, ℕ, pos, length, map, sum_by, if◌then◌else◌, IfOk};
 ghost use Rattle.std.specs.List.Sorted.{IsNonDecreasing};
 ghost use Rattle.wait_causes.specs.Words.{MAX_NET_STAYS};
-ghost use Rattle.wait_causes.specs.Parts.{behind_for, waited, measure, Waited, Live, Best, rank_of, nearest_rank, costs_of, behind_costs, part_of, AreLight, IsLight};
+ghost use Rattle.wait_causes.specs.Latencies.{latency_of};
+ghost use Rattle.wait_causes.specs.Parts.{behind_for, waited, measure, Waited, Live, Pace, Best, rank_of, nearest_rank, costs_of, behind_costs, part_of, AreLight, IsLight};
 
 use crate::behind::{Behind, FullBehind};
 use crate::explained_stay::ExplainedStay;
 use crate::kind::InputKind;
+use crate::known::Known;
+use crate::latency::{Latency, latency_of};
+use crate::ranks::nearest_rank;
 use round_net::{MAX_NET_ROUNDS, WaitCause};
 use std::alloc::{AllocError, Global};
 
@@ -110,16 +114,20 @@ pub struct Part {
     pub max: u32,
     /// The weighted rounds that they waited.
     pub live: u64,
-    /// The weighted rounds that they wait in the other schedule.
+    /// The weighted rounds that they wait in the best schedule at the recorded pace; none of a trace.
+    pub pace: Option<u64>,
+    /// The weighted rounds that they wait in the best schedule.
     pub best: u64,
     /// Those of `live`, by cause.
     pub costs: CauseCosts,
     /// Those of full devices, adapters and links, by what stays waited behind.
     pub behind: BehindCosts,
+    /// How long they took, if the input says when stays were completed.
+    pub latency: Option<Latency>,
 }
 
 impl Part {
-    /// How much more the live schedule costs than the other one: below 0 where the other one lets these stays wait longer.
+    /// How much more the live schedule costs than the best one: below 0 where the best one lets these stays wait longer.
     pub fn excess(&self) -> i128
         ensures { result ≡ pos self.now.live -ℤ pos self.now.best }
     {
@@ -132,6 +140,7 @@ impl Part {
 enum Measure {
     Waited,
     Live,
+    Pace,
     Best,
     Cost(WaitCause),
     Full(Behind),
@@ -147,6 +156,7 @@ impl Measure {
         let rounds = match self {
             Measure::Waited => return u64::from(stay.waited()),
             Measure::Live => stay.waited(),
+            Measure::Pace => stay.waited_at_pace(),
             Measure::Best => stay.best.saturating_sub(stay.arrival),
             Measure::Cost(cause) => stay.rounds.for_cause(cause),
             Measure::Full(behind) => behind_for(&stay.behind, behind),
@@ -166,27 +176,37 @@ fn behind_for(rounds: &FullBehind, behind: Behind) -> u32
     }
 }
 
-/// What these stays waited, and what that cost.
+/// What these stays waited, and what that cost. `known` is what else the input says of its stays.
 #[tactic(auto, unfolding(crate::specs::Parts::part_of))]
-pub(crate) fn part_of(alloc: Global, stays: &[ExplainedStay]) -> Result<Part, AllocError>
+pub(crate) fn part_of(
+    alloc: Global,
+    known: Known,
+    stays: &[ExplainedStay],
+) -> Result<Part, AllocError>
     requires few { length stays.now ≤ MAX_NET_STAYS }
     requires light { AreLight stays.now }
-    ensures { IfOk result (λ part. part ≡ part_of stays.now) }
+    ensures { IfOk result (λ part. part ≡ part_of known stays.now) }
 {
     let waits = waits_of(alloc, stays)?;
     let sums = sums_of(stays);
     Ok(Part {
         stays: stays.len() as u32,
         waited: sums.waited,
-        p50: nearest_rank(&waits, 500),
-        p90: nearest_rank(&waits, 900),
-        p99: nearest_rank(&waits, 990),
-        p999: nearest_rank(&waits, 999),
-        max: nearest_rank(&waits, 1000),
+        p50: nearest_rank(&waits, MAX_NET_ROUNDS, 500),
+        p90: nearest_rank(&waits, MAX_NET_ROUNDS, 900),
+        p99: nearest_rank(&waits, MAX_NET_ROUNDS, 990),
+        p999: nearest_rank(&waits, MAX_NET_ROUNDS, 999),
+        max: nearest_rank(&waits, MAX_NET_ROUNDS, 1000),
         live: sums.live,
+        pace: if known.pace {
+            Some(pace_of(stays))
+        } else {
+            None
+        },
         best: sums.best,
         costs: sums.costs,
         behind: sums.behind,
+        latency: latency_if(alloc, known, stays)?,
     })
 }
 
@@ -258,6 +278,34 @@ fn sums_of(stays: &[ExplainedStay]) -> Sums
     sums
 }
 
+// How long these stays took, if the input says when stays were completed.
+fn latency_if(
+    alloc: Global,
+    known: Known,
+    stays: &[ExplainedStay],
+) -> Result<Option<Latency>, AllocError>
+    requires few { length stays.now ≤ MAX_NET_STAYS }
+    ensures { IfOk result (λ latency. latency ≡ (if known.completions then Some (latency_of stays.now) else None)) }
+{
+    if !known.completions {
+        return Ok(None);
+    }
+    Ok(Some(latency_of(alloc, stays)?))
+}
+
+// The weighted rounds that these stays wait at the recorded pace.
+fn pace_of(stays: &[ExplainedStay]) -> u64
+    requires few { length stays.now ≤ MAX_NET_STAYS }
+    requires light { AreLight stays.now }
+    ensures { result ≡ sum_by (measure Pace) stays.now }
+{
+    let mut sum = 0;
+    for stay in stays {
+        sum += Measure::Pace.of(stay);
+    }
+    sum
+}
+
 // The rounds that each stay waited, in ascending order.
 fn waits_of(alloc: Global, stays: &[ExplainedStay]) -> Result<Vec<u32>, AllocError>
     ensures count { IfOk result (λ waits. length waits.items ≡ length stays.now) }
@@ -274,38 +322,4 @@ fn unsorted_waits(alloc: Global, stays: &[ExplainedStay]) -> Result<Vec<u32>, Al
     ensures { IfOk result (λ waits. waits.items ≡ map waited stays.now) }
 {
     stays.iter().map(|stay| stay.waited()).collect(alloc)
-}
-
-// The least of these ascending numbers of rounds that that many in a thousand of them don't pass.
-fn nearest_rank(waits: &[u32], thousandths: usize) -> u32
-    requires ascending { IsNonDecreasing waits.now }
-    requires few { length waits.now ≤ MAX_NET_STAYS }
-    requires thousandths { thousandths ≤ 1000 }
-    ensures { result ≡ rank_of thousandths waits.now }
-{
-    // No number below `low` is enough, and `high` is, unless it is beyond all.
-    let mut low = 0;
-    let mut high = MAX_NET_ROUNDS;
-    while low < high {
-        let middle = low + (high - low) / 2;
-        if thousandths * waits.len() <= 1000 * within(waits, middle) {
-            high = middle;
-        } else {
-            low = middle + 1;
-        }
-    }
-    if low < MAX_NET_ROUNDS { low } else { 0 }
-}
-
-// How many of these ascending numbers are no more than this.
-fn within(waits: &[u32], rounds: u32) -> usize
-    requires { IsNonDecreasing waits.now }
-    ensures same { result ≡ count_by (λ wait. nat_le wait rounds) waits.now }
-    ensures few { result ≤ length waits.now }
-{
-    waits.partition_point(
-        |wait: &u32| -> bool
-            ensures { result ≡ nat_le wait.now rounds }
-        { *wait <= rounds },
-    )
 }

@@ -1,6 +1,7 @@
 //! Why the stays of a recording waited.
 
 use crate::sends::{Sends, sends_at};
+use cam_types::Config;
 use recording_file::{Name, Recording, Span};
 use round_net::{Net, WaitCause, cell};
 use std::alloc::{AllocError, Global};
@@ -56,11 +57,25 @@ impl RecordedRounds {
         cause_at(&self.causes, cell(self.recording.rounds(), device, round))
     }
 
+    /// The recording's configuration.
+    pub(crate) fn config(&self) -> &Config
+        ensures { result.now ≡ self.now.config }
+    {
+        self.recording.config()
+    }
+
     /// The recording's names.
     pub(crate) fn names(&self) -> &[Name]
         ensures { result.now ≡ self.now.names }
     {
         self.recording.names()
+    }
+
+    /// Whether the recording says when requests were completed.
+    pub(crate) fn completions(&self) -> bool
+        ensures { result ≡ self.now.completions }
+    {
+        self.recording.completions()
     }
 
     /// How long the recording's rounds are, if that is known.

@@ -7,6 +7,7 @@ ghost use Rattle.wait_causes.specs.Tables.{number, stays_of, row_for, greatest, 
 ghost use Rattle.wait_causes.specs.declared.table.Grouping.{Grouping as Groupings};
 
 use crate::explained_stay::ExplainedStay;
+use crate::known::Known;
 use crate::part::{Part, part_of};
 use std::alloc::{AllocError, Global};
 
@@ -24,8 +25,8 @@ pub enum Grouping {
 }
 
 impl Grouping {
-    // The number by which the stay is grouped.
-    fn number(self, stay: &ExplainedStay) -> u32
+    /// The number by which the stay is grouped.
+    pub fn number(self, stay: &ExplainedStay) -> u32
         ensures { result ≡ number self stay.now }
     {
         match self {
@@ -49,17 +50,18 @@ pub struct Row {
 /// A row for each number that has a stay, in ascending order.
 pub(crate) fn table_of(
     alloc: Global,
+    known: Known,
     stays: &[ExplainedStay],
     by: Grouping,
 ) -> Result<Vec<Row>, AllocError>
     requires few { length stays.now ≤ MAX_NET_STAYS }
     requires light { AreLight stays.now }
-    ensures { IfOk result (λ rows. rows.items ≡ table_of by stays.now) }
+    ensures { IfOk result (λ rows. rows.items ≡ table_of known by stays.now) }
 {
     let groups = groups_of(alloc, stays, by)?;
     let mut rows = Vec::new(alloc);
     for number in 0..groups.len() {
-        push_part(alloc, &mut rows, number as u32, &groups[number])?;
+        push_part(alloc, known, &mut rows, number as u32, &groups[number])?;
     }
     Ok(rows)
 }
@@ -91,9 +93,9 @@ fn no_groups(alloc: Global, count: usize) -> Result<Vec<Vec<ExplainedStay>>, All
     Ok(groups)
 }
 
-// The greatest number of these stays, and 0 of none.
+/// The greatest number of these stays, and 0 of none.
 #[tactic(auto, unfolding(crate::specs::Tables::greatest))]
-fn greatest(stays: &[ExplainedStay], by: Grouping) -> u32
+pub fn greatest(stays: &[ExplainedStay], by: Grouping) -> u32
     ensures { result ≡ greatest by stays.now }
 {
     let mut most = 0;
@@ -106,18 +108,19 @@ fn greatest(stays: &[ExplainedStay], by: Grouping) -> u32
 // Puts the row of these stays after the others, if there are some.
 fn push_part(
     alloc: Global,
+    known: Known,
     rows: &mut Vec<Row>,
     number: u32,
     part: &[ExplainedStay],
 ) -> Result<(), AllocError>
     requires few { length part.now ≤ MAX_NET_STAYS }
     requires light { AreLight part.now }
-    ensures { IfOk result (λ _. rows.new.items ≡ rows.old.items ++ row_for number part.now) }
+    ensures { IfOk result (λ _. rows.new.items ≡ rows.old.items ++ row_for known number part.now) }
 {
     if part.is_empty() {
         return Ok(());
     }
-    let waited = part_of(alloc, part)?;
+    let waited = part_of(alloc, known, part)?;
     rows.push(Row {
         number,
         part: waited,

@@ -1,4 +1,4 @@
-use Rattle.std.proofs.Common.{◌≡◌, ◌-◌, ◌<◌, ◌++◌, ◌∷◌, [], List, ℕ, sym, subst, arith, ap, ◌∙◌}
+use Rattle.std.proofs.Common.{◌-◌, arith}
 use Rattle.wait_causes.specs.Origins.{cause_of}
 use Rattle.wait_causes.proofs.FirstWaitsLemmas.{changes_step, few_changes}
 use Rattle.wait_causes.proofs.cause_runs.changes_of.Goals as goal

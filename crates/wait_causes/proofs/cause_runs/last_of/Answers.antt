@@ -1,4 +1,4 @@
-use Rattle.std.proofs.Common.{◌≡◌, ◌∙◌, ◌+◌, sym, ap, arith, true, false}
+use Rattle.std.proofs.Common.{◌≡◌, ◌∙◌, ◌+◌, sym, arith, true, false}
 use Rattle.wait_causes.specs.Origins.{cause_of}
 use Rattle.wait_causes.specs.Words.{is_cause}
 use Rattle.wait_causes.proofs.FirstWaitsLemmas.{last_here, last_more, changed}

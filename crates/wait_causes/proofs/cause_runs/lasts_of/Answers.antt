@@ -1,5 +1,5 @@
 use Rattle.std.proofs.Common.{◌≡◌, ◌+◌, ◌-◌, get_or, ℕ, List, sym, subst, arith, ap, ◌∙◌}
-use Rattle.wait_causes.specs.Origins.{cause_of, instance_in}
+use Rattle.wait_causes.specs.Origins.{cause_of}
 use Rattle.wait_causes.specs.FirstWaits.{IsLast}
 use Rattle.wait_causes.proofs.FirstWaitsLemmas.{lasts_step}
 use Rattle.wait_causes.proofs.cause_runs.lasts_of.Goals as goal

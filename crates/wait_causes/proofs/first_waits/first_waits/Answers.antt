@@ -1,4 +1,4 @@
-use Rattle.std.proofs.Common.{◌≡◌, ◌+◌, ◌-◌, ◌<◌, ◌≤◌, ◌++◌, ◌∷◌, [], get_or, ℕ, List, length, length-append, sym, subst, arith, ap, ◌∙◌}
+use Rattle.std.proofs.Common.{◌≡◌, ◌-◌, ◌≤◌, ◌∷◌, [], get_or, ℕ, List, length-append, sym, subst, arith, ap, ◌∙◌}
 use Rattle.wait_causes.specs.Origins.{cause_of, instance_in}
 use Rattle.wait_causes.specs.FirstWaits.{IsLast}
 use Rattle.wait_causes.specs.Waits.{Wait}

@@ -35,10 +35,10 @@ loop-number-preserved c =
     let within : c.loop-number.number < greatest c.args.by c.args.stays.now + 1 = omega (arith, c.loop-number-test.true, c.len-number-end.ensures, long) in
     let part : c.deref.result.now ≡ stays_of c.args.by c.args.stays.now c.loop-number.number = c.deref.ensures.value ∙ ap (λ (v : Vec ExplainedStay Global). v.items) c.index.ensures
     ∙ list_at (stays_of c.args.by c.args.stays.now) (greatest c.args.by c.args.stays.now + 1) c.loop-number.number c.in_ok-groups.groups.items c.index.result.now c.in_ok-groups.ensures.groups within in
-    rows_step (row_of c.args.by c.args.stays.now) c.loop-number.rows.items c.push_part.new.rows.items c.loop-number.number c.loop-number.invariant
-    (c.in_ok-push_part.ensures ∙ ap (λ (xs : List ExplainedStay). c.loop-number.rows.items ++ row_for c.loop-number.number xs) part)
+    rows_step (row_of c.args.known c.args.by c.args.stays.now) c.loop-number.rows.items c.push_part.new.rows.items c.loop-number.number c.loop-number.invariant
+    (c.in_ok-push_part.ensures ∙ ap (λ (xs : List ExplainedStay). c.loop-number.rows.items ++ row_for c.args.known c.loop-number.number xs) part)
 
 pub returns : goal.returns
 returns c =
     let long = lists_length (stays_of c.args.by c.args.stays.now) (greatest c.args.by c.args.stays.now + 1) c.in_ok-groups.groups.items c.in_ok-groups.ensures.groups in
-    table_end c.args.by c.args.stays.now c.loop-number.rows.items c.loop-number.number c.loop-number.invariant (omega (arith, long, c.len-number-end.ensures, c.loop-number-test.false, c.loop-number.auto.number-end))
+    table_end c.args.known c.args.by c.args.stays.now c.loop-number.rows.items c.loop-number.number c.loop-number.invariant (omega (arith, long, c.len-number-end.ensures, c.loop-number-test.false, c.loop-number.auto.number-end))

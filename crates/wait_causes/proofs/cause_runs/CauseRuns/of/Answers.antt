@@ -1,4 +1,3 @@
-use Rattle.std.proofs.Common.{◌≡◌, ◌∙◌, sym}
 use Rattle.wait_causes.proofs.FirstWaitsLemmas.{runs_step}
 use Rattle.wait_causes.proofs.cause_runs.CauseRuns.of.Goals as goal
 

@@ -2,9 +2,9 @@ use Rattle.std.proofs.Common.{◌≡◌, ◌<◌, map, get_or, sym, subst, Some,
 use Rattle.std.proofs.lemmas.Option.{get_or_from_slice_get}
 use Rattle.wait_causes.specs.Counting.{IsWithin}
 use Rattle.wait_causes.specs.Explained.{Explained}
-use Rattle.wait_causes.specs.FirstWaits.{AreFirstWaitsOf, AreRuns, DeviceRuns, FirstWaits}
+use Rattle.wait_causes.specs.FirstWaits.{AreFirstWaitsOf, AreRuns, DeviceRuns}
 use Rattle.wait_causes.specs.Origins.{instance_in, cause_of}
-use Rattle.wait_causes.specs.Stays.{explained, ExplainedStay}
+use Rattle.wait_causes.specs.Stays.{explained, paces, ExplainedStay}
 use Rattle.wait_causes.proofs.ExplainedLemmas.{within_explained}
 use Rattle.wait_causes.proofs.explanation.Explanation.first_waits.Goals as goal
 
@@ -66,6 +66,6 @@ returns-clause-waits c =
     let lt : c.args.place < length x.stays.items = omega (arith, ltb-true _ _ (sym found.0), ap (λ (xs : List ExplainedStay). length xs) c.deref.ensures.value) in
     let read : kept ≡ get_or x.stays.items c.args.place kept = found.1 ∙ ap (λ (xs : List ExplainedStay). get_or xs c.args.place kept) c.deref.ensures.value in
     let best : List ℕ = map (λ (s : ExplainedStay). s.best) x.stays.items in
-    subst (λ (e : Explained). (s : ExplainedStay) → slice_get (explained e.origin e.best) c.args.place ≡ Some s → IfOk c.first_waits.result (λ w. AreFirstWaitsOf e.origin s c.args.most w)) c.self.view_is (λ s at.
-    let same : kept ≡ s = read ∙ ap (λ (xs : List ExplainedStay). get_or xs c.args.place kept) c.self.invariant.0.rows ∙ get_or_from_slice_get (explained x.origin best) c.args.place s kept at in
+    subst (λ (e : Explained). (s : ExplainedStay) → slice_get (explained e.origin e.pace e.best) c.args.place ≡ Some s → IfOk c.first_waits.result (λ w. AreFirstWaitsOf e.origin s c.args.most w)) c.self.view_is (λ s at.
+    let same : kept ≡ s = read ∙ ap (λ (xs : List ExplainedStay). get_or xs c.args.place kept) c.self.invariant.0.rows ∙ get_or_from_slice_get (explained x.origin (paces x.stays.items) best) c.args.place s kept at in
     subst (λ (k : ExplainedStay). IfOk c.first_waits.result (λ w. AreFirstWaitsOf x.origin k c.args.most w)) same c.first_waits.ensures)

@@ -13,5 +13,5 @@ freezes_of-requires c =
 pub returns-in-Trace : goal.returns-in-Trace
 returns-in-Trace c =
     let x = c.self.inside in
-    subst (λ (e : Explained). IfOk c.freezes_of.result (λ rows. rows.items ≡ freezes_in e.origin (explained e.origin e.best))) c.self.view_is
+    subst (λ (e : Explained). IfOk c.freezes_of.result (λ rows. rows.items ≡ freezes_in e.origin (explained e.origin e.pace e.best))) c.self.view_is
     (rw (c.deref.ensures.value, found_freezes x.origin c.in-Trace.table x.stays.items c.in-Trace.is c.self.invariant.0) at c.freezes_of.ensures)

@@ -61,4 +61,4 @@ returns c =
     let count : c.in_ok-stays.stays.items ≡ map (counted (origin.Trace past)) c.in_ok-listed.listed.items = c.in_ok-stays.ensures ∙ ap (λ (xs : List ExplainedStay). map (counted (origin.Trace past)) xs) c.deref-2.ensures.value in
     let all : length c.args.best.now ≡ (instance_in (origin.Trace past)).stays = c.requires.stays ∙ ap (λ (n : NetRows). (instance_of_rows n).stays) net_is in
     let found = trace_found past c.args.best.now c.in_ok-listed.listed.items c.in_ok-stays.stays.items is count (all ∙ all_stays past.config past.events) in
-    rw (c.requires.table, found.best_is) refl
+    rw (c.requires.table, found.pace_is, found.best_is) refl

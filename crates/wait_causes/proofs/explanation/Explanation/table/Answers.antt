@@ -1,5 +1,6 @@
 use Rattle.std.proofs.Common.{◌≡◌, subst, IfOk}
 use Rattle.wait_causes.specs.Explained.{Explained}
+use Rattle.wait_causes.specs.Origins.{known_of}
 use Rattle.wait_causes.specs.Stays.{explained}
 use Rattle.wait_causes.specs.Tables.{table_of}
 use Rattle.wait_causes.proofs.ExplainedLemmas.{few_explained, light_explained}
@@ -17,5 +18,5 @@ table_of-requires-clause-light c =
 
 pub returns : goal.returns
 returns c =
-    subst (λ (e : Explained). IfOk c.table_of.result (λ rows. rows.items ≡ table_of c.args.by (explained e.origin e.best))) c.self.view_is
-    (rw (c.deref.ensures.value, c.self.invariant.0.rows) at c.table_of.ensures)
+    subst (λ (e : Explained). IfOk c.table_of.result (λ rows. rows.items ≡ table_of (known_of e.origin) c.args.by (explained e.origin e.pace e.best))) c.self.view_is
+    (rw (c.known.ensures, c.deref.ensures.value, c.self.invariant.0.rows) at c.table_of.ensures)

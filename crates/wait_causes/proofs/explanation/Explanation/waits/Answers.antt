@@ -4,7 +4,7 @@ use Rattle.wait_causes.specs.Counting.{IsWithin}
 use Rattle.wait_causes.specs.Explained.{Explained}
 use Rattle.wait_causes.specs.Origins.{instance_in}
 use Rattle.wait_causes.specs.Waits.{AreWaitsOf}
-use Rattle.wait_causes.specs.Stays.{explained, ExplainedStay}
+use Rattle.wait_causes.specs.Stays.{explained, paces, ExplainedStay}
 use Rattle.wait_causes.proofs.ExplainedLemmas.{within_explained}
 use Rattle.wait_causes.proofs.explanation.Explanation.waits.Goals as goal
 
@@ -46,6 +46,6 @@ returns-clause-waits c =
     let lt : c.args.place < length x.stays.items = omega (arith, ltb-true _ _ (sym found.0), ap (λ (xs : List ExplainedStay). length xs) c.deref.ensures.value) in
     let read : kept ≡ get_or x.stays.items c.args.place kept = found.1 ∙ ap (λ (xs : List ExplainedStay). get_or xs c.args.place kept) c.deref.ensures.value in
     let best : List ℕ = map (λ (s : ExplainedStay). s.best) x.stays.items in
-    subst (λ (e : Explained). (s : ExplainedStay) → slice_get (explained e.origin e.best) c.args.place ≡ Some s → IfOk c.waits_in.result (λ waits. AreWaitsOf e.origin s waits.items)) c.self.view_is (λ s at.
-    let same : kept ≡ s = read ∙ ap (λ (xs : List ExplainedStay). get_or xs c.args.place kept) c.self.invariant.0.rows ∙ get_or_from_slice_get (explained x.origin best) c.args.place s kept at in
+    subst (λ (e : Explained). (s : ExplainedStay) → slice_get (explained e.origin e.pace e.best) c.args.place ≡ Some s → IfOk c.waits_in.result (λ waits. AreWaitsOf e.origin s waits.items)) c.self.view_is (λ s at.
+    let same : kept ≡ s = read ∙ ap (λ (xs : List ExplainedStay). get_or xs c.args.place kept) c.self.invariant.0.rows ∙ get_or_from_slice_get (explained x.origin (paces x.stays.items) best) c.args.place s kept at in
     subst (λ (k : ExplainedStay). IfOk c.waits_in.result (λ waits. AreWaitsOf x.origin k waits.items)) same c.waits_in.ensures)

@@ -1,7 +1,7 @@
 //! The scripts by which shells complete the program's words. Names and options are those of the table of subcommands.
 
 use crate::shell::{SHELLS, Shell};
-use crate::subcommands::{SUBCOMMANDS, Subcommand};
+use crate::subcommands::{SUBCOMMANDS, Subcommand, VERBOSE};
 use crate::word::NamedArgument;
 use std::alloc::{AllocError, Global};
 
@@ -115,7 +115,7 @@ fn push_case(
     } else {
         shell.with_files
     };
-    write!(script, "--help{end}")
+    write!(script, "--verbose --help{end}")
 }
 
 // Puts the lines of fish after the script: one for each option, and for what takes names of shells or subcommands.
@@ -127,6 +127,7 @@ fn push_fish(alloc: Global, script: &mut String) -> Result<(), AllocError> {
         for word in subcommand.words {
             push_fish_line(alloc, script, subcommand.name, *word)?;
         }
+        push_fish_line(alloc, script, subcommand.name, VERBOSE)?;
     }
     write!(script, "{FISH_WORD}help\" -f -a \"")?;
     push_names(script)?;

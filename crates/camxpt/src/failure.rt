@@ -32,6 +32,18 @@ pub enum Failure {
     /// Rounds after the last one, which is this, are to be drawn.
     #[error("--rounds: the last round is {0}")]
     NoSuchRounds(u32),
+    /// The word at this place among those of `--slo` isn't of its form.
+    #[error("--slo takes driver:NAME, level:N or all, and then :pN=TIME, as all:p99=5ms")]
+    NoLimit(usize),
+    /// The word at this place among them names a driver that isn't there.
+    #[error("no driver has this name")]
+    NoSuchDriver(usize),
+    /// The input of limits in time doesn't say how long a round is.
+    #[error("--slo: the input doesn't say how long a round is")]
+    NoTimes,
+    /// It doesn't say when requests were completed.
+    #[error("--slo: the recording doesn't say when requests were completed")]
+    NoCompletions,
     /// A sweep by no seed, of more runs than there may be, or without memory for it.
     #[error("{0}")]
     Sweep(#[from] PlanFault),
@@ -63,6 +75,8 @@ impl Failure {
         ExitCode::from(match self {
             Failure::WordNotUtf8 | Failure::StandardInputTwice(_, _) | Failure::NoShell => 2,
             Failure::NoRange | Failure::NoSuchRounds(_) | Failure::NoNumber(_) => 2,
+            Failure::NoLimit(_) => 2,
+            Failure::NoSuchDriver(_) | Failure::NoTimes | Failure::NoCompletions => 3,
             Failure::CannotOpen(_, _) | Failure::CannotWrite(_) => 4,
             Failure::Sweep(PlanFault::OutOfMemory)
             | Failure::Load(ScriptFault::OutOfMemory)

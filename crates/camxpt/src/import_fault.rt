@@ -39,6 +39,9 @@ pub enum ImportFault {
     /// How many rounds of a span there are, more than 65,535; and a round that would fit, unless that hides the waits.
     #[error(fmt = too_many_rounds)]
     TooManyRounds(u128, Span, Option<Span>),
+    /// A device had so many requests in flight, more than the `--depth` of this place gives it slots.
+    #[error("{1} were in flight")]
+    TooFewSlots(usize, u32),
     /// More adapters than there may be.
     #[error("9 adapters, and a recording has at most 8: devices without --host share one after the last that is given")]
     Config,

@@ -2,8 +2,8 @@
 
 use crate::import_fault::ImportFault;
 use crate::import_words::{
-    DRIVER, Host, Kind, RATED, check_files, hosts_of, kind_of, numbers_of, picks_of, priorities_of,
-    round_of, time_of,
+    DEPTH, DRIVER, Host, Kind, RATED, check_files, hosts_of, kind_of, numbers_of, picks_of,
+    priorities_of, round_of, time_of,
 };
 use capture_file::Options;
 use clap::ArgMatches;
@@ -23,6 +23,8 @@ pub struct ImportOptions {
     pub hosts: Vec<(String, Host)>,
     /// What devices are rated at, by their names.
     pub ratings: Vec<(String, u32)>,
+    /// The slots of devices, by their names.
+    pub depths: Vec<(String, u32)>,
     /// Whether lines that aren't of their form are counted and left out.
     pub is_lenient: bool,
 }
@@ -47,6 +49,7 @@ impl ImportOptions {
             },
             hosts: hosts_of(alloc, words)?,
             ratings: numbers_of(alloc, words, &RATED)?,
+            depths: numbers_of(alloc, words, &DEPTH)?,
             is_lenient: words.get_flag("lenient"),
         })
     }

@@ -1,11 +1,16 @@
 //! Makes a recording of captures.
 
+ghost use Rattle.std.specs.Prelude.{◌≡◌, IfOk};
+ghost use Rattle.capture.specs.Rounds.{in_rounds};
+
 use crate::import_fault::ImportFault;
 use crate::import_layout::{adapters_of, config_of, devices_of, names_of};
 use crate::import_note::note_on;
 use crate::import_options::ImportOptions;
-use crate::import_warnings::{tell_counts, warn_columns, warn_missing, warn_read, warn_recorded};
-use crate::import_words::Kind;
+use crate::import_warnings::{
+    SeenSlots, tell_counts, tell_rooms, warn_columns, warn_missing, warn_read, warn_recorded,
+};
+use crate::import_words::{Kind, value_of};
 use crate::note::{tell_note, tell_of};
 use crate::output::standard_output;
 use crate::source::{STANDARD_INPUT, is_verbose};
@@ -19,6 +24,7 @@ use capture_file::{
 };
 use clap::ArgMatches;
 use recording_file::{Recording, Span, WriteFault, write_recording};
+use slots::SlotsFault;
 use std::alloc::{AllocError, Global};
 use std::fs::File;
 use std::process::ExitCode;
@@ -31,8 +37,8 @@ pub fn import<R: Runtime + AllocGlobal>(rt: &R, words: &ArgMatches<'_>) -> ExitC
     let Err(fault) = imported(rt, words, &mut line) else {
         return ExitCode::SUCCESS;
     };
-    match fault.file() {
-        Some(place) => tell_of(rt, word_at(words, "FILE", place), &fault),
+    match subject(words, &fault) {
+        Some(name) => tell_of(rt, name, &fault),
         None => {
             let _ = rt.eprintln(format_args!("camxpt: {fault}"));
         }
@@ -41,6 +47,17 @@ pub fn import<R: Runtime + AllocGlobal>(rt: &R, words: &ArgMatches<'_>) -> ExitC
         tell_note(rt, note_on(rt.alloc(), words, &fault, &line));
     }
     ExitCode::from(fault.status())
+}
+
+// The file or the device that a fault is of, if it is of one.
+fn subject<'w>(words: &'w ArgMatches<'_>, fault: &ImportFault) -> Option<&'w str> {
+    match fault {
+        ImportFault::TooFewSlots(place, _) => {
+            let (name, _) = word_at(words, "depth", *place).rsplit_once('=')?;
+            Some(name)
+        }
+        _ => Some(word_at(words, "FILE", fault.file()?)),
+    }
 }
 
 // If a line is refused, `line` has it.
@@ -59,8 +76,11 @@ fn imported<R: Runtime + AllocGlobal>(
     warn_missing(rt, &options, &read);
     warn_columns(rt, &read);
     let round = round_for(rt.alloc(), options.round, &read)?;
-    let recording = recording_of(rt.alloc(), &options, round, &read)?;
+    let capture = capture_of(rt.alloc(), round, &read)?;
+    let rooms = rooms_of(rt.alloc(), &options, &capture, &read)?;
+    let recording = recording_of(rt.alloc(), &options, &capture, &rooms.spare, &read)?;
     tell_counts(rt, round, &recording, &read.counts);
+    tell_rooms(rt, &options, &read.devices, &rooms.seen);
     warn_read(rt, round, &read);
     warn_recorded(rt, &options, &read, &recording);
     let mut out = standard_output(rt);
@@ -179,7 +199,9 @@ fn checked_round(round: Span, read: &Read) -> Result<Span, ImportFault> {
 }
 
 // The requests in rounds. If there are too many rounds, the fault has a longer round that fits, unless that hides the waits.
-fn capture_of(alloc: Global, round: Span, read: &Read) -> Result<Capture, ImportFault> {
+fn capture_of(alloc: Global, round: Span, read: &Read) -> Result<Capture, ImportFault>
+    ensures { IfOk result (λ c. c ≡ in_rounds c.unit read.now.requests.items) }
+{
     let round = Span {
         count: round.count.max(1),
         ..round
@@ -195,16 +217,65 @@ fn capture_of(alloc: Global, round: Span, read: &Read) -> Result<Capture, Import
     }
 }
 
+// What devices had room for: the slots of each, if they can be seen, and its spare starts in each round.
+#[derive(Drop)]
+struct Rooms {
+    seen: Vec<Option<SeenSlots>>,
+    spare: Vec<Vec<u32>>,
+}
+
+fn rooms_of(
+    alloc: Global,
+    options: &ImportOptions,
+    capture: &Capture,
+    read: &Read,
+) -> Result<Rooms, ImportFault>
+    requires { capture.now ≡ in_rounds capture.now.unit read.now.requests.items }
+{
+    if read.flights.len() > u32::MAX as usize {
+        return Err(CaptureFault::TooManyRequests(read.flights.len()).into());
+    }
+    let mut rooms = Rooms {
+        seen: Vec::new(alloc),
+        spare: Vec::new(alloc),
+    };
+    let mut number = 0u32;
+    for name in &read.devices {
+        let place = options
+            .depths
+            .iter()
+            .position(|depth| depth.0.as_str() == name.as_str());
+        let depth = value_of(&options.depths, name);
+        match capture.room(alloc, &read.requests, &read.flights, number, depth) {
+            Ok(Some(room)) => {
+                let (slots, starts) = (room.slots, room.spare.total);
+                rooms.seen.push(Some(SeenSlots { slots, starts }))?;
+                rooms.spare.push(room.spare.row)?;
+            }
+            Ok(None) => {
+                rooms.seen.push(None)?;
+                rooms.spare.push(Vec::new(alloc))?;
+            }
+            Err(SlotsFault::TooFew(most)) => {
+                return Err(ImportFault::TooFewSlots(place.unwrap_or(0), most));
+            }
+            Err(SlotsFault::OutOfMemory) => return Err(AllocError.into()),
+        }
+        number = number.saturating_add(1);
+    }
+    Ok(rooms)
+}
+
 fn recording_of(
     alloc: Global,
     options: &ImportOptions,
-    round: Span,
+    capture: &Capture,
+    spare: &[Vec<u32>],
     read: &Read,
 ) -> Result<Recording, ImportFault> {
-    let capture = capture_of(alloc, round, read)?;
-    let (devices, rated) = devices_of(alloc, options, &capture, &read.devices)?;
+    let (devices, rated) = devices_of(alloc, options, capture, &read.devices)?;
     let (adapters, open) = adapters_of(alloc, &options.hosts, &read.devices, &devices)?;
     let config = config_of(alloc, &adapters, &devices)?;
     let names = names_of(alloc, read)?;
-    Ok(capture.recording(alloc, &config, &rated, &open, names)?)
+    Ok(capture.recording(alloc, &config, &rated, &open, spare, names)?)
 }

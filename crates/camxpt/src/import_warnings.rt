@@ -2,13 +2,16 @@
 
 use crate::import_options::ImportOptions;
 use crate::import_span::unit_word;
+use crate::import_words::value_of;
 use cam_types::standard_weights;
 use capture::{longest_round, span_nanoseconds};
 use capture_file::{Capture as Read, Counts};
 use recording_file::{PartKind, Recording, Span};
+use slots::Slots;
 use std::alloc::{AllocError, Global};
 use std::rt::Runtime;
 use views::shown_name;
+use wording::{Page, push_nanoseconds};
 
 /// Says what a round is, how many there are, and what was left out.
 pub fn tell_counts<R: Runtime>(rt: &R, round: Span, recording: &Recording, counts: &Counts) {
@@ -71,6 +74,54 @@ pub fn warn_missing<R: Runtime + AllocGlobal>(rt: &R, options: &ImportOptions, r
     }
     for (name, _) in &options.ratings {
         warn_unknown(rt, "--rated names", name, &read.devices);
+    }
+    for (name, _) in &options.depths {
+        warn_unknown(rt, "--depth names", name, &read.devices);
+    }
+}
+
+/// The slots of a device, and how many starts more they had room for.
+#[derive(Clone, Copy)]
+pub struct SeenSlots {
+    pub slots: Slots,
+    pub starts: u128,
+}
+
+/// Says of each device that isn't rated how many slots it had, how long it served a request, and how many starts more it had room
+/// for; or that nobody knows that.
+pub fn tell_rooms<R: Runtime + AllocGlobal>(
+    rt: &R,
+    options: &ImportOptions,
+    names: &[String],
+    seen: &[Option<SeenSlots>],
+) {
+    for (name, seen) in names.iter().zip(seen.iter()) {
+        if value_of(&options.ratings, name).is_none() {
+            match seen {
+                Some(seen) => tell_slots(rt, name, *seen),
+                None => warn(
+                    rt,
+                    "no request of",
+                    name,
+                    " has an end after its start: idle slots can't be seen",
+                ),
+            }
+        }
+    }
+}
+
+fn tell_slots<R: Runtime + AllocGlobal>(rt: &R, name: &str, seen: SeenSlots) {
+    let (slots, spare) = (seen.slots.slots, seen.starts);
+    let (slot, start) = (
+        if slots == 1 { "slot" } else { "slots" },
+        if spare == 1 { "start" } else { "starts" },
+    );
+    let mut service = Page::new(rt.alloc());
+    push_nanoseconds(&mut service, u128::from(seen.slots.service));
+    if let (Ok(name), Ok(service)) = (shown_name(rt.alloc(), name), service.finish()) {
+        let _ = rt.eprintln(format_args!(
+            "camxpt: {name}: {slots} {slot}, service {service}; {spare} {start} more had room while others waited"
+        ));
     }
 }
 

@@ -44,6 +44,15 @@ pub const RATED: Numbering = Numbering {
     twice: "--rated names a device twice",
 };
 
+/// The devices whose slots are given.
+pub const DEPTH: Numbering = Numbering {
+    id: "depth",
+    least: 1,
+    most: 65_535,
+    form: "--depth takes DEVICE=SLOTS, 1 to 65535",
+    twice: "--depth names a device twice",
+};
+
 /// What kind of text the files are.
 #[derive(Clone, Copy)]
 pub enum Kind {
@@ -98,8 +107,8 @@ pub fn round_of(words: &ArgMatches<'_>) -> Result<Option<Span>, ImportFault> {
     }
 }
 
-// A number and a unit.
-fn span(word: &str) -> Option<Span> {
+/// A number and a unit.
+pub fn span(word: &str) -> Option<Span> {
     let digits = word.trim_end_matches(|c: char| c.is_ascii_alphabetic());
     let unit = match word.strip_prefix(digits)? {
         "ns" => TimeUnit::Nanosecond,

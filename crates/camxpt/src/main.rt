@@ -16,6 +16,7 @@ mod import_run;
 mod import_span;
 mod import_warnings;
 mod import_words;
+mod limits;
 mod load_run;
 mod note;
 mod output;

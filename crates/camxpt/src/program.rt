@@ -4,7 +4,8 @@ use crate::compare_run::compare;
 use crate::completion::script;
 use crate::failure::Failure;
 use crate::import_run::import;
-use crate::note::{STANDARD_OUTPUT, capture_note, note_on, reason_note, tell, tell_note};
+use crate::limits::{Limit, limits_of};
+use crate::note::{STANDARD_OUTPUT, capture_note, note_on, reason_note, tell, tell_note, tell_of};
 use crate::output::{Output, print, standard_output};
 use crate::progress::ProgressLine;
 use crate::proof_run::prove;
@@ -15,7 +16,7 @@ use crate::subcommands::command;
 use crate::sweep_run::sweep_script;
 use crate::trace_run::TraceRun;
 use crate::view::{View, range_of};
-use crate::words::{check_numbers, words};
+use crate::words::{check_numbers, word_at, words};
 use audit_report::AuditFault;
 use clap::ArgMatches;
 use clap::error::ErrorKind;
@@ -127,13 +128,17 @@ fn obey<R: Runtime + AllocGlobal + Threads + Wait + Sync>(
     on_terminal: bool,
 ) -> Result<ExitCode, Failure> {
     let Some((name, words)) = matches.subcommand() else {
-        return Ok(over_input(rt, on_terminal));
+        return over_input(rt, on_terminal);
     };
     let failure = match obey_words(rt, name, words, on_terminal) {
         Ok(status) => return Ok(status),
         Err(failure) => failure,
     };
     let (file, reason) = match failure {
+        Failure::NoLimit(place) | Failure::NoSuchDriver(place) => {
+            tell_of(rt, word_at(words, "slo", place), &failure);
+            return Ok(failure.exit_code());
+        }
         Failure::CannotOpen(argument, error) => (argument.file_name(words), error),
         Failure::CannotWrite(error) => (STANDARD_OUTPUT, error),
         _ => return Err(failure),
@@ -149,10 +154,15 @@ fn obey_words<R: Runtime + AllocGlobal + Threads + Wait + Sync>(
     on_terminal: bool,
 ) -> Result<ExitCode, Failure> {
     check_numbers(words)?;
-    let rounds = range_of(words)?;
-    if let Some(run) = trace_run(name, words, rounds) {
+    let rounds = if name == "draw" {
+        range_of(words)?
+    } else {
+        None
+    };
+    let limits = limits_of(rt.alloc(), words)?;
+    if let Some(run) = trace_run(name, words, rounds, &limits) {
         let trace = open(rt, words, Argument::Trace)?;
-        return Ok(over_trace(rt, trace, run, on_terminal));
+        return over_trace(rt, trace, run, on_terminal);
     }
     match name {
         "sim" => {
@@ -165,12 +175,18 @@ fn obey_words<R: Runtime + AllocGlobal + Threads + Wait + Sync>(
         "sweep" => sweep_script(rt, words, on_terminal),
         "completions" => complete(rt, words.get_str("SHELL").unwrap_or("")),
         "import" => Ok(import(rt, words)),
-        _ => Ok(over_input(rt, on_terminal)),
+        _ => over_input(rt, on_terminal),
     }
 }
 
-// What the subcommand of this name does with a trace, if it takes one. It draws these rounds, if they are asked for.
-fn trace_run(name: &str, words: &ArgMatches<'_>, rounds: Option<(u32, u32)>) -> Option<TraceRun> {
+// What the subcommand of this name does with a trace, if it takes one. It draws these rounds, if they are asked for, and counts by
+// these limits.
+fn trace_run<'a>(
+    name: &str,
+    words: &ArgMatches<'_>,
+    rounds: Option<(u32, u32)>,
+    limits: &'a [Limit<'a>],
+) -> Option<TraceRun<'a>> {
     let as_json = words.get_flag("json");
     let summary = words.get_flag("summary");
     let waits = if words.get_flag("all-waits") {
@@ -183,9 +199,16 @@ fn trace_run(name: &str, words: &ArgMatches<'_>, rounds: Option<(u32, u32)>) -> 
         "check" => TraceRun::Check,
         "audit" if as_json => TraceRun::AuditAsJson { summary },
         "audit" => TraceRun::Audit { summary },
-        "explain" if as_json => TraceRun::Explain(View::Json { waits }),
+        "explain" if as_json => TraceRun::Explain(View::Json {
+            limits,
+            waits: Some(waits).filter(|_| !words.get_flag("no-stays")),
+            has_blame: words.get_flag("blame"),
+        }),
         "explain" => TraceRun::Explain(View::Page {
+            limits,
             top: words.get_one("top").unwrap_or(TOP),
+            has_times: !words.get_flag("rounds"),
+            has_blame: words.get_flag("blame"),
         }),
         "draw" => TraceRun::Explain(View::Drawing { rounds }),
         "timeline" => TraceRun::Explain(View::Timeline { waits }),
@@ -197,7 +220,10 @@ fn trace_run(name: &str, words: &ArgMatches<'_>, rounds: Option<(u32, u32)>) -> 
 }
 
 // Prints the summary of the audit of the trace on standard input.
-fn over_input<R: Runtime + AllocGlobal + Threads + Sync>(rt: &R, on_terminal: bool) -> ExitCode {
+fn over_input<R: Runtime + AllocGlobal + Threads + Sync>(
+    rt: &R,
+    on_terminal: bool,
+) -> Result<ExitCode, Failure> {
     over_trace(
         rt,
         input(rt),
@@ -206,20 +232,21 @@ fn over_input<R: Runtime + AllocGlobal + Threads + Sync>(rt: &R, on_terminal: bo
     )
 }
 
-// What a run does with the trace that is open.
+// What a run does with the trace that is open. A word that it refuses is told by the caller.
 fn over_trace<R: Runtime + AllocGlobal + Threads + Sync, D: Read + Drop>(
     rt: &R,
     mut trace: Source<'_, D>,
-    run: TraceRun,
+    run: TraceRun<'_>,
     on_terminal: bool,
-) -> ExitCode {
+) -> Result<ExitCode, Failure> {
     let mut out = standard_output(rt);
     let line = ProgressLine::new(rt, on_terminal);
     let done = run.over(rt, &line, &mut trace, &mut out);
     line.clear();
     match done {
-        Ok(()) => ExitCode::SUCCESS,
-        Err(failure) => tell_on(rt, &failure, &trace, &out),
+        Ok(()) => Ok(ExitCode::SUCCESS),
+        Err(failure @ Failure::NoSuchDriver(_)) => Err(failure),
+        Err(failure) => Ok(tell_on(rt, &failure, &trace, &out)),
     }
 }
 

@@ -15,7 +15,8 @@ const PAIRED_BY: &[&str] = &["name", BY_NUMBER];
 
 const JSON: NamedArgument = Flag("json", "Prints one line of JSON");
 
-const VERBOSE: NamedArgument = Flag(
+/// What each subcommand takes after its own options.
+pub(crate) const VERBOSE: NamedArgument = Flag(
     "verbose",
     "Says after a fault where it stands and what stands there, or why a file failed",
 );
@@ -52,7 +53,7 @@ pub(crate) struct Subcommand {
     pub(crate) name: &'static str,
     about: &'static str,
     example: &'static str,
-    /// Its arguments.
+    /// Its arguments, but for [`VERBOSE`].
     pub(crate) words: &'static [NamedArgument],
 }
 
@@ -62,7 +63,7 @@ pub(crate) const SUBCOMMANDS: [Subcommand; 15] = [
         name: "check",
         about: "Tests a trace or a recording and prints its counts and what its waiting cost",
         example: "Example: camxpt check examples/frozen-device.csv",
-        words: &[JSON, VERBOSE, EITHER],
+        words: &[JSON, EITHER],
     },
     Subcommand {
         name: "audit",
@@ -74,7 +75,6 @@ pub(crate) const SUBCOMMANDS: [Subcommand; 15] = [
                 "Prints the first seven lines of the report alone",
             ),
             JSON,
-            VERBOSE,
             EITHER,
         ],
     },
@@ -88,8 +88,24 @@ pub(crate) const SUBCOMMANDS: [Subcommand; 15] = [
                 "Lists at most so many stays, and as many freezes; 10 if it is left out",
             ),
             ALL_WAITS,
+            Texts(
+                "slo",
+                "LIMIT",
+                "A limit of latency: driver:NAME, level:N or all, and then :pN=TIME, as all:p99=5ms",
+            ),
+            Flag(
+                "blame",
+                "Says who was in the way of whom, by drivers and by run levels",
+            ),
+            Flag(
+                "no-stays",
+                "Leaves the list of stays out of the JSON, which then has some kilobytes",
+            ),
+            Flag(
+                "rounds",
+                "Counts the waits of a recording in rounds, also where it says how long a round is",
+            ),
             JSON,
-            VERBOSE,
             EITHER,
         ],
     },
@@ -105,7 +121,6 @@ pub(crate) const SUBCOMMANDS: [Subcommand; 15] = [
                 "Pairs drivers and devices by name, where both inputs have names, or by number; by name if it is left out",
             ),
             JSON,
-            VERBOSE,
             NeededWord(
                 "BEFORE",
                 "The trace or recording before a change; - is standard input",
@@ -126,7 +141,6 @@ pub(crate) const SUBCOMMANDS: [Subcommand; 15] = [
                 "A-B",
                 "Draws the bars of the rounds from A to B alone",
             ),
-            VERBOSE,
             EITHER,
         ],
     },
@@ -134,7 +148,7 @@ pub(crate) const SUBCOMMANDS: [Subcommand; 15] = [
         name: "timeline",
         about: "Prints a trace or a recording as a timeline in Chrome's trace-event format, for Perfetto or chrome://tracing",
         example: "Example: camxpt timeline examples/frozen-device.csv > timeline.json",
-        words: &[ALL_WAITS, VERBOSE, EITHER],
+        words: &[ALL_WAITS, EITHER],
     },
     Subcommand {
         name: "prove",
@@ -142,7 +156,6 @@ pub(crate) const SUBCOMMANDS: [Subcommand; 15] = [
         example: "Example: camxpt prove examples/frozen-device.csv examples/frozen-device.report",
         words: &[
             JSON,
-            VERBOSE,
             NeededWord("TRACE", "The trace or recording; - is standard input"),
             NeededWord(
                 "REPORT",
@@ -156,7 +169,6 @@ pub(crate) const SUBCOMMANDS: [Subcommand; 15] = [
         example: "Example: camxpt sim examples/script-timeout-requeued.csv 1",
         words: &[
             REQUIRE_DRAINED,
-            VERBOSE,
             SCRIPT,
             NeededNumber(
                 "SEED",
@@ -168,7 +180,7 @@ pub(crate) const SUBCOMMANDS: [Subcommand; 15] = [
         name: "run",
         about: "Runs a script with a thread for each actor and prints the trace, and on standard error how the run ended",
         example: "Example: camxpt run examples/script-timeout-requeued.csv",
-        words: &[REQUIRE_DRAINED, VERBOSE, SCRIPT],
+        words: &[REQUIRE_DRAINED, SCRIPT],
     },
     Subcommand {
         name: "sweep",
@@ -186,7 +198,6 @@ pub(crate) const SUBCOMMANDS: [Subcommand; 15] = [
                 "Runs each setting by the seeds from 1 to N; 1 if it is left out",
             ),
             JSON,
-            VERBOSE,
             SCRIPT,
         ],
     },
@@ -194,19 +205,19 @@ pub(crate) const SUBCOMMANDS: [Subcommand; 15] = [
         name: "migrate",
         about: "Prints a trace of any version in version 3, which has a table of weights and links",
         example: "Example: camxpt migrate examples/frozen-device.csv",
-        words: &[VERBOSE, TRACE],
+        words: &[TRACE],
     },
     Subcommand {
         name: "record",
         about: "Prints the recording of a trace: its requests with their windows, and what each device, adapter and link took",
         example: "Example: camxpt record examples/frozen-device.csv",
-        words: &[VERBOSE, TRACE],
+        words: &[TRACE],
     },
     Subcommand {
         name: "script",
         about: "Prints the script of what the drivers of a trace or a recording asked for, to be run again under other settings",
         example: "Example: camxpt script examples/frozen-device.csv",
-        words: &[VERBOSE, EITHER],
+        words: &[EITHER],
     },
     Subcommand {
         name: "import",
@@ -249,6 +260,11 @@ pub(crate) const SUBCOMMANDS: [Subcommand; 15] = [
                 "NAME=OPENINGS",
                 "How many requests a device takes in a round, where it isn't measured",
             ),
+            Texts(
+                "depth",
+                "NAME=SLOTS",
+                "How many requests a device can have in flight; as many as it had at most if it is left out",
+            ),
             Text(
                 "from-time",
                 "SECONDS",
@@ -263,7 +279,6 @@ pub(crate) const SUBCOMMANDS: [Subcommand; 15] = [
                 "lenient",
                 "Counts lines that are refused and leaves them out",
             ),
-            VERBOSE,
             Words("FILE", "The files of the capture; - is standard input"),
         ],
     },
@@ -271,14 +286,14 @@ pub(crate) const SUBCOMMANDS: [Subcommand; 15] = [
         name: "completions",
         about: "Prints the script by which a shell completes these words",
         example: "Example: camxpt completions bash",
-        words: &[VERBOSE, ShellName("SHELL", "bash, zsh or fish")],
+        words: &[ShellName("SHELL", "bash, zsh or fish")],
     },
 ];
 
 /// The words that the program takes.
 pub fn command<'a>(alloc: Global) -> Result<Command<'a>, AllocError> {
     let mut command = Command::new(alloc, "camxpt")
-        .version("0.2.0")
+        .version("0.3.0")
         .about(
             "Audits traces of a CAM transport and recordings of any scheduler, and runs scripts that record traces. With no arguments it prints the summary of the audit of the trace or recording on standard input.",
         )
@@ -299,6 +314,6 @@ impl Subcommand {
         for word in self.words {
             command = command.arg(word.arg(alloc))?;
         }
-        Ok(command)
+        command.arg(VERBOSE.arg(alloc))
     }
 }

@@ -14,6 +14,7 @@ use audit_report::{
 };
 use cam_types::Watched;
 use cost_plan::plan_with;
+use recording_file::Recording;
 use round_net::{Net, NetFault, RoundTable};
 use std::io::{Read, Write};
 use std::thread::Threads;
@@ -24,7 +25,7 @@ use wait_causes::Explanation;
 
 /// What is done with a trace, or with a recording unless it is migrated or recorded.
 #[derive(Clone, Copy)]
-pub enum TraceRun {
+pub enum TraceRun<'a> {
     /// It is checked.
     Check,
     /// The same, as one line of JSON.
@@ -40,7 +41,7 @@ pub enum TraceRun {
         summary: bool,
     },
     /// It is explained, and the explanation is shown.
-    Explain(View),
+    Explain(View<'a>),
     /// It is written in the newest version.
     Migrate,
     /// It is written as a recording.
@@ -49,7 +50,7 @@ pub enum TraceRun {
     Script,
 }
 
-impl TraceRun {
+impl TraceRun<'_> {
     /// Prints what comes of the trace. The line says how far it is.
     pub fn over<R: AllocGlobal + Threads + Clock + Eprint + Sync, D: Read, W: Write>(
         self,
@@ -116,11 +117,21 @@ pub fn explanation_of<R: AllocGlobal + Threads + Clock + Eprint + Sync, D: Read>
             let explanation = Explanation::of(alloc, &history, table, &net, &best.schedule)?;
             Ok((net, explanation))
         }
-        Input::Recording(recording) => {
-            let net = Net::of_recording(alloc, &recording)?;
-            let best = plan_with(rt, alloc, &net, line)?;
-            let explanation = Explanation::of_recording(alloc, recording, &net, &best.schedule)?;
-            Ok((net, explanation))
-        }
+        Input::Recording(recording) => explained(rt, line, recording),
     }
+}
+
+// The net of a recording, and its explanation beside the best schedule at the recorded pace and the best one.
+fn explained<R: AllocGlobal + Threads + Clock + Eprint + Sync>(
+    rt: &R,
+    line: &ProgressLine<'_, R>,
+    recording: Recording,
+) -> Result<(Net, Explanation), Failure> {
+    let alloc = rt.alloc();
+    let net = Net::of_recording(alloc, &recording)?;
+    let best = plan_with(rt, alloc, &net, line)?;
+    let paced = plan_with(rt, alloc, &net.at_pace(alloc)?, line)?;
+    let (pace, best) = (&paced.schedule, &best.schedule);
+    let explanation = Explanation::of_recording(alloc, recording, &net, pace, best)?;
+    Ok((net, explanation))
 }

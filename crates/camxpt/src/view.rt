@@ -1,28 +1,41 @@
 //! How the explanation of a trace or a recording is shown: as a page, a line of JSON, a drawing or a timeline.
 
 use crate::failure::Failure;
+use crate::limits::{Limit, limited};
 use crate::note::title;
 use crate::output::closed;
 use crate::words::number_in;
 use clap::ArgMatches;
 use drawing::{draw, timeline_json};
+use recording_file::{Name, NameKind};
 use round_net::Net;
-use std::alloc::Global;
+use std::alloc::{AllocError, Global};
 use views::{explain_json, page};
 use wait_causes::Explanation;
+use wording::{Page, push_span};
 
 /// How an explanation is shown.
 #[derive(Clone, Copy)]
-pub enum View {
+pub enum View<'a> {
     /// As a page of text.
     Page {
+        /// The limits of latency that are asked for.
+        limits: &'a [Limit<'a>],
         /// How many of the costliest stays and freezes are listed at most.
         top: usize,
+        /// Whether it has times in place of rounds, if it is known how long a round is.
+        has_times: bool,
+        /// Whether it has who waited for whom.
+        has_blame: bool,
     },
     /// As one line of JSON.
     Json {
-        /// How many waits of each stay are listed at most.
-        waits: usize,
+        /// The limits of latency that are asked for.
+        limits: &'a [Limit<'a>],
+        /// How many waits of each stay are listed at most; none if no stay is.
+        waits: Option<usize>,
+        /// Whether it has who waited for whom.
+        has_blame: bool,
     },
     /// As a drawing.
     Drawing {
@@ -36,7 +49,7 @@ pub enum View {
     },
 }
 
-impl View {
+impl View<'_> {
     /// What is printed of the trace or recording of this name. It is refused to draw rounds that there aren't.
     pub fn text(
         self,
@@ -46,20 +59,74 @@ impl View {
         explanation: &Explanation,
     ) -> Result<String, Failure> {
         Ok(match self {
-            View::Page { top } => page(alloc, net.config(), explanation, top)?,
-            View::Json { waits } => closed(explain_json(alloc, name, net, explanation, waits))?,
+            View::Page {
+                limits,
+                top,
+                has_times,
+                has_blame,
+            } => {
+                let limited = limited(alloc, limits, explanation)?;
+                page(alloc, net, explanation, &limited, top, has_times, has_blame)?
+            }
+            View::Json {
+                limits,
+                waits,
+                has_blame,
+            } => {
+                let limited = limited(alloc, limits, explanation)?;
+                closed(explain_json(alloc, name, net, explanation, &limited, waits, has_blame))?
+            }
             View::Drawing { rounds } => {
                 if let Some((_, last)) = rounds
                     && last > net.rounds()
                 {
                     return Err(Failure::NoSuchRounds(net.rounds()));
                 }
-                draw(alloc, title(name), rounds, net, explanation)?
+                let title = drawn_title(alloc, name, net, explanation)?;
+                draw(alloc, &title, rounds, net, explanation)?
             }
             View::Timeline { waits } => {
                 closed(timeline_json(alloc, title(name), net, explanation, waits))?
             }
         })
+    }
+}
+
+// What is drawn: of a recording how long it is and of which devices, if it says how long a round is and has names of devices; else
+// the input's name.
+fn drawn_title(
+    alloc: Global,
+    name: &str,
+    net: &Net,
+    explanation: &Explanation,
+) -> Result<String, AllocError> {
+    let mut page = Page::new(alloc);
+    let names = explanation.names();
+    match explanation.unit() {
+        Some(span) if names.iter().any(|name| name.kind() == NameKind::Device) => {
+            push_span(&mut page, span, u64::from(net.rounds()));
+            page.put(" of ");
+            push_devices(&mut page, names);
+        }
+        _ => page.put(title(name)),
+    }
+    page.finish()
+}
+
+// Puts the names of the first three devices on the page, and how many more have one.
+fn push_devices(page: &mut Page, names: &[Name]) {
+    let mut count = 0usize;
+    for name in names {
+        if name.kind() == NameKind::Device {
+            if count < 3 {
+                page.put(if count > 0 { ", " } else { "" });
+                page.put(name.text());
+            }
+            count = count.saturating_add(1);
+        }
+    }
+    if count > 3 {
+        page.show(format_args!(" and {} more", count - 3));
     }
 }
 

@@ -25,6 +25,8 @@ mod guesses;
 #[cfg(test)]
 mod heap;
 #[cfg(test)]
+mod idle_slots;
+#[cfg(test)]
 mod judged;
 #[cfg(test)]
 mod levels;

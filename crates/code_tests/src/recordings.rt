@@ -1,4 +1,4 @@
-//! A recording that is made item by item and written, and a text that is too long for one.
+//! A recording that is made item by item and written, one with a completion, and texts that are none.
 
 ghost use Rattle.std.specs.Prelude.{◌≡◌, [], IfOk};
 ghost use Rattle.cam_types.specs.Topology.{IsConfig, Topology};
@@ -29,6 +29,21 @@ cap,dev,0,1,2,1,,
 cap,dev,0,3,5,1,,
 request,7,0,1152,1,4,1,
 request,7,0,1152,1,4,4,
+";
+
+// A recording with completions, as it is written. The second request was completed after the last round.
+const COMPLETED: &str = "\
+camrecord2,a,b,c,d,e,f,g
+rounds,4,,,,,,
+weight,255,16,,,,,
+weight,511,8,,,,,
+weight,767,4,,,,,
+weight,1023,2,,,,,
+weight,1279,1,,,,,
+sim,2,,,,,,
+dev,0,1,0,1,,,
+request,7,0,1152,1,,1,
+request,7,0,1152,1,,4,9
 ";
 
 // An adapter of two openings and a device of one.
@@ -65,6 +80,7 @@ fn request(sent: u32) -> Request {
         arrival: 1,
         last: Some(4),
         sent,
+        done: None,
     }
 }
 
@@ -85,7 +101,7 @@ fn add_cap(recorder: &mut Recorder, cap: Cap) -> Result<(), Fail> {
 }
 
 fn add_request(alloc: Global, recorder: &mut Recorder, request: Request) -> Result<(), Fail> {
-    if recorder.has_place() {
+    if recorder.has_place() && recorder.takes_done(request) {
         Ok(recorder.add_request(alloc, request)?)
     } else {
         Err(Fail::new("a request is refused"))
@@ -93,7 +109,7 @@ fn add_request(alloc: Global, recorder: &mut Recorder, request: Request) -> Resu
 }
 
 fn recorded(alloc: Global) -> Result<Recording, Fail> {
-    let mut recorder = Recorder::new(alloc, Some(UNIT), 5, config(alloc)?);
+    let mut recorder = Recorder::new(alloc, Some(UNIT), 5, config(alloc)?, false);
     add_name(alloc, &mut recorder)?;
     add_cap(&mut recorder, cap(1, 2))?;
     add_cap(&mut recorder, cap(3, 5))?;
@@ -109,6 +125,43 @@ fn writes_what_was_recorded(rt: HostRuntime) -> Result<(), Fail> {
     let mut text = Vec::new(rt.alloc());
     write_recording(rt.alloc(), &recording, &mut Watched::new(&mut text))?;
     assert_eq!(rt; text.as_slice(), TEXT.as_bytes());
+    Ok(())
+}
+
+#[test]
+fn a_completion_is_read_and_written(rt: HostRuntime) -> Result<(), Fail> {
+    let recording = read_recording(rt.alloc(), &mut Watched::new(COMPLETED.as_bytes()))?;
+    assert!(rt; recording.completions());
+    let mut known = recording.requests().iter().map(|request| request.done);
+    assert_eq!(rt; (known.next(), known.next()), (Some(None), Some(Some(9))));
+    let mut text = Vec::new(rt.alloc());
+    write_recording(rt.alloc(), &recording, &mut Watched::new(&mut text))?;
+    assert_eq!(rt; text.as_slice(), COMPLETED.as_bytes());
+    Ok(())
+}
+
+// Version 1 has no completion. In version 2 it is a number, and none is before the start.
+#[test]
+fn a_wrong_completion_is_a_bad_field(rt: HostRuntime) -> Result<(), Fail> {
+    let alloc = rt.alloc();
+    for (version, done, due) in [
+        (1, "", None),
+        (1, "5", Some(RecordingFault::BadField(5, 8))),
+        (2, "5", None),
+        (2, "4", None),
+        (2, "3", Some(RecordingFault::BadField(5, 8))),
+        (2, "x", Some(RecordingFault::BadField(5, 8))),
+        (2, "4294967296", Some(RecordingFault::BadField(5, 8))),
+    ] {
+        let text = format!(in alloc;
+            "camrecord{version},a,b,c,d,e,f,g\nrounds,4,,,,,,\nsim,2,,,,,,\ndev,0,1,0,1,,,\nrequest,7,0,1152,1,,4,{done}\n"
+        )?;
+        let answer = match read_recording(alloc, &mut Watched::new(text.as_bytes())) {
+            Ok(_) => None,
+            Err(fault) => Some(fault),
+        };
+        assert_eq!(rt; answer, due, "version {version}, completed in {done}");
+    }
     Ok(())
 }
 

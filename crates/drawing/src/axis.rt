@@ -1,7 +1,7 @@
 //! The rounds and times below a drawing.
 
 use crate::scene::Scene;
-use wording::{Page, push_number, push_span};
+use wording::{Page, push_end, push_number};
 
 /// Puts the axis of these rounds on the page: up to four of them, each where it begins, and below it when it ends.
 pub(crate) fn push_axis(page: &mut Page, scene: &Scene, first: u32, last: u32) {
@@ -31,7 +31,7 @@ fn push_tick(page: &mut Page, scene: &Scene, quarter: u32, round: u32) {
     page.put("</text>");
     if let Some(span) = scene.explanation.unit() {
         page.show(format_args!("<text y='28' x='{at}%'>"));
-        push_span(page, span, u64::from(round));
+        push_end(page, span, u64::from(round));
         page.put("</text>");
     }
 }

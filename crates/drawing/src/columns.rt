@@ -16,10 +16,18 @@ pub(crate) fn bin_rounds(figures: &[RoundFigures]) -> usize {
 pub(crate) enum ColumnValue {
     /// How many waited.
     Waiting,
+    /// The weight that waited.
+    Cost,
+    /// The weight that waits in the best schedule at the recorded pace.
+    Paced,
+    /// The weight that waits in the best schedule.
+    Needed,
     /// How many were sent.
     Sent,
     /// How many could have been.
     Openings,
+    /// How many were in flight.
+    InFlight,
 }
 
 impl ColumnValue {
@@ -27,8 +35,12 @@ impl ColumnValue {
     pub(crate) fn of(self, figure: &RoundFigures) -> u64 {
         match self {
             ColumnValue::Waiting => figure.waiting,
+            ColumnValue::Cost => figure.cost,
+            ColumnValue::Paced => figure.paced,
+            ColumnValue::Needed => figure.needed,
             ColumnValue::Sent => figure.sent,
             ColumnValue::Openings => figure.openings,
+            ColumnValue::InFlight => figure.in_flight,
         }
     }
 

@@ -31,7 +31,7 @@ const END: &str =
     "</dl>\n<p><code>camxpt explain --json</code> has all numbers of this page, and every request with its waits.</p></section>\n";
 
 /// Puts what the words mean on the page.
-pub(crate) fn push_words(page: &mut Page, kind: InputKind, config: &Config) {
+pub(crate) fn push_words(page: &mut Page, kind: InputKind, completions: bool, config: &Config) {
     let (full, rest) = match kind {
         InputKind::Trace => (
             "the device had taken as many requests in the round as it takes",
@@ -43,10 +43,15 @@ pub(crate) fn push_words(page: &mut Page, kind: InputKind, config: &Config) {
         ),
     };
     page.put(WORDS);
-    push_full(page, kind, WaitCause::DeviceFull, full);
     push_full(
         page,
-        kind,
+        plain_words(kind, completions, WaitCause::DeviceFull),
+        WaitCause::DeviceFull,
+        full,
+    );
+    push_full(
+        page,
+        plain_words(kind, completions, WaitCause::AdapterFull),
         WaitCause::AdapterFull,
         "the same of the adapter",
     );
@@ -58,7 +63,7 @@ pub(crate) fn push_words(page: &mut Page, kind: InputKind, config: &Config) {
 }
 
 // Puts the words of full devices or adapters on the page, with what they mean.
-fn push_full(page: &mut Page, kind: InputKind, cause: WaitCause, meant: &str) {
-    let (plain, name) = (plain_words(kind, cause), cause.name());
+fn push_full(page: &mut Page, plain: &str, cause: WaitCause, meant: &str) {
+    let name = cause.name();
     page.show(format_args!("<dt>{plain} ({name})</dt><dd>{meant}</dd>"));
 }

@@ -41,7 +41,8 @@ pub fn draw(
     push_ranges(&mut page, &scene, &choice)?;
     push_tables(&mut page, &scene)?;
     push_freezes(&mut page, &scene)?;
-    push_words(&mut page, explanation.kind(), net.config());
+    let completions = scene.whole.latency.is_some();
+    push_words(&mut page, explanation.kind(), completions, net.config());
     page.put("</main></body></html>\n");
     page.finish()
 }

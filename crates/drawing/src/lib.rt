@@ -5,8 +5,10 @@
 pub use layout::draw;
 pub use timeline::timeline_json;
 
+mod alike;
 mod axis;
 mod bars;
+mod blame_table;
 mod choice;
 mod columns;
 mod costliest;

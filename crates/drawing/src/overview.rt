@@ -1,4 +1,5 @@
-//! The overview: how many waited and how many openings were used over time, with the ranges that are drawn.
+//! The overview: how many waited, and how many openings were used or how many were in flight, over time, with the ranges that
+//! are drawn.
 
 use crate::axis::push_axis;
 use crate::choice::Choice;
@@ -9,6 +10,12 @@ use crate::scene::Scene;
 use crate::section::push_range_name;
 use std::alloc::AllocError;
 use wording::{Page, push_number, push_numbers, push_round, push_share};
+
+// What the mark of an area begins with, before its class, and what it ends with.
+const SWATCH: &str =
+    "<li><svg xmlns='http://www.w3.org/2000/svg' aria-hidden='true' width='32' height='14'><path d='M0 0h32v14h-32z' class='";
+
+const SWATCH_END: &str = "'/></svg> ";
 
 // How many ranges are listed.
 const LISTED: usize = 8;
@@ -21,6 +28,7 @@ pub(crate) fn push_overview(
     figures: &[RoundFigures],
 ) -> Result<(), AllocError> {
     page.put("<section id='overview'><h2>Overview</h2>\n");
+    push_parts(page, scene);
     push_chart(page, scene, choice, figures);
     push_axis(page, scene, 1, count_of(figures));
     push_caption(page, scene, figures);
@@ -31,39 +39,107 @@ pub(crate) fn push_overview(
     Ok(())
 }
 
+// What stands above: of a recording the weight that waited, with that in the best schedule at the recorded pace and in the best
+// schedule before it, or of a trace how many waited.
+fn areas(scene: &Scene) -> &'static [(ColumnValue, &'static str)] {
+    match scene.whole.pace {
+        Some(_) => &[
+            (ColumnValue::Cost, "order"),
+            (ColumnValue::Paced, "idle"),
+            (ColumnValue::Needed, "needed"),
+        ],
+        None => &[(ColumnValue::Waiting, "q")],
+    }
+}
+
+// What stands below, in words and as a number: of a recording that says completions the requests in flight, or else the
+// openings used.
+fn below(scene: &Scene) -> (&'static str, ColumnValue) {
+    if scene.explanation.known().completions {
+        ("requests in flight", ColumnValue::InFlight)
+    } else {
+        ("openings used", ColumnValue::Sent)
+    }
+}
+
+// Says what the areas of a recording stand for, and what share of the cost each has.
+fn push_parts(page: &mut Page, scene: &Scene) {
+    let whole = &scene.whole;
+    let Some(pace) = whole.pace else {
+        return;
+    };
+    page.put("<ul class='legend' id='cost-parts'>\n");
+    for (class, words, cost) in &[
+        ("order", "by order", whole.live.saturating_sub(pace)),
+        ("idle", "by idle slots", pace.saturating_sub(whole.best)),
+        ("needed", "needed", whole.best),
+    ] {
+        page.words(&[SWATCH, class, SWATCH_END, words]);
+        push_numbers(page, &[(" <b>", *cost)], "</b> (");
+        push_share(page, *cost, whole.live);
+        page.put(")</li>\n");
+    }
+    page.words(&[
+        SWATCH,
+        "used",
+        SWATCH_END,
+        "below: ",
+        below(scene).0,
+        "</li>\n</ul>\n",
+    ]);
+}
+
 // Puts the drawing on the page: two rows of columns, one above the other.
 fn push_chart(page: &mut Page, scene: &Scene, choice: &Choice, figures: &[RoundFigures]) {
+    let areas = areas(scene);
+    let most = areas.iter().map(|area| area.0.most(figures)).max();
     let waiting = Scale {
-        most: ColumnValue::Waiting.most(figures),
+        most: most.unwrap_or(0),
         height: 96,
         base: 100,
     };
-    let openings = Scale {
-        most: ColumnValue::Openings
-            .most(figures)
-            .max(ColumnValue::Sent.most(figures)),
-        height: 48,
-        base: 156,
-    };
+    let (words, used) = below(scene);
     page.show(format_args!(
         "<svg xmlns='http://www.w3.org/2000/svg' class='chart' role='group' aria-labelledby='o1 o2' \
 preserveAspectRatio='none' height='160' viewBox='0 0 {} 160'>\
-<title id='o1'>Requests waiting, and openings used, over time</title>\
-<desc id='o2'>The stretches that are drawn below are links.</desc>\n<path class='q' d='",
+<title id='o1'>Requests waiting, and {words}, over time</title>\
+<desc id='o2'>The stretches that are drawn below are links.</desc>\n",
         figures.len()
     ));
-    push_columns(page, figures, ColumnValue::Waiting, waiting);
-    page.put("'/>\n<path class='used' d='");
-    push_columns(page, figures, ColumnValue::Sent, openings);
-    page.put("'/>\n<path class='cap' d='");
-    push_line(page, figures, ColumnValue::Openings, openings);
-    page.put("'/>\n");
+    for (value, class) in areas {
+        page.words(&["<path class='", class, "' d='"]);
+        push_columns(page, figures, *value, waiting);
+        page.put("'/>\n");
+    }
+    push_used(page, figures, used);
     for range in &choice.ranges {
         if range.stays > 0 {
             push_pick(page, scene, range);
         }
     }
     page.put("</svg>\n");
+}
+
+// Puts the columns below on the page, with the line to which they may reach: the openings, or the most that were in flight.
+fn push_used(page: &mut Page, figures: &[RoundFigures], used: ColumnValue) {
+    let most = used.most(figures);
+    let scale = Scale {
+        most: match used {
+            ColumnValue::Sent => most.max(ColumnValue::Openings.most(figures)),
+            _ => most,
+        },
+        height: 48,
+        base: 156,
+    };
+    page.put("<path class='used' d='");
+    push_columns(page, figures, used, scale);
+    page.put("'/>\n<path class='cap' d='");
+    match used {
+        ColumnValue::Sent => push_line(page, figures, ColumnValue::Openings, scale),
+        _ if most > 0 => page.show(format_args!("M0 108h{}", figures.len())),
+        _ => {}
+    }
+    page.put("'/>\n");
 }
 
 // Puts the link to a range on the page.
@@ -80,18 +156,28 @@ fn push_pick(page: &mut Page, scene: &Scene, range: &RoundRange) {
 
 // Says what the drawing shows.
 fn push_caption(page: &mut Page, scene: &Scene, figures: &[RoundFigures]) {
-    page.put("<p>Above: requests that waited, at most ");
-    push_most(page, scene, figures, ColumnValue::Waiting);
-    page.put(". Below: openings used, at most ");
-    push_most(page, scene, figures, ColumnValue::Sent);
-    push_numbers(
-        page,
-        &[(
-            "; the line is how many the adapters have, at most ",
-            ColumnValue::Openings.most(figures),
-        )],
-        "",
-    );
+    let above = match scene.whole.pace {
+        Some(_) => ("the weight of the requests that waited", ColumnValue::Cost),
+        None => ("requests that waited", ColumnValue::Waiting),
+    };
+    page.words(&["<p>Above: ", above.0, ", at most "]);
+    push_most(page, scene, figures, above.1);
+    let (words, used) = below(scene);
+    page.words(&[". Below: ", words, ", at most "]);
+    push_most(page, scene, figures, used);
+    match used {
+        ColumnValue::Sent => push_numbers(
+            page,
+            &[(
+                "; the line is how many the adapters have, at most ",
+                ColumnValue::Openings.most(figures),
+            )],
+            "",
+        ),
+        _ => page.put(
+            ", where the line is. In flight in a round are those sent in it or before, and completed in it or later",
+        ),
+    }
     let each = bin_rounds(figures) as u64;
     if each > 1 {
         push_numbers(
@@ -118,7 +204,7 @@ fn push_most(page: &mut Page, scene: &Scene, figures: &[RoundFigures], shown: Co
 
 // Puts the links to the costliest of the ranges on the page, each with what it cost.
 fn push_list(page: &mut Page, scene: &Scene, choice: &Choice) -> Result<(), AllocError> {
-    page.put("<p>The dearest stretches, each a link:</p>\n<ol id='stretches'>\n");
+    page.put("<p>The costliest stretches, each a link:</p>\n<ol id='stretches'>\n");
     for range in by_cost(scene.alloc, &choice.ranges)?.iter().take(LISTED) {
         if range.stays > 0 {
             page.show(format_args!("<li><a href='#r{}'>", range.first));

@@ -1,4 +1,4 @@
-//! What each round had: how many waited, what that cost, how many were sent, and how many could have been.
+//! What each round had: how many waited, what that cost, how many were sent and in flight, and how many could have been sent.
 
 use crate::loads::cap;
 use round_net::Net;
@@ -10,10 +10,17 @@ use wait_causes::ExplainedStay;
 pub(crate) struct RoundFigures {
     /// How many stays waited in it.
     pub(crate) waiting: u64,
-    /// What their waiting in it cost.
+    /// What their waiting in it cost: the weight that waited.
     pub(crate) cost: u64,
+    /// The weight that waits in it in the best schedule at the recorded pace; 0 of a trace.
+    pub(crate) paced: u64,
+    /// The weight that waits in it in the best schedule.
+    pub(crate) needed: u64,
     /// How many stays were sent in it.
     pub(crate) sent: u64,
+    /// How many were in flight in it: sent in it or before, and completed in it or later. A stay whose completion isn't known
+    /// is in flight in the round of its send alone.
+    pub(crate) in_flight: u64,
     /// How many the adapters took in it at most, all together.
     pub(crate) openings: u64,
 }
@@ -34,14 +41,17 @@ pub(crate) fn figures(
     for (round, figure) in (1..=net.rounds()).zip(figures.iter_mut()) {
         figure.waiting = figure.waiting.wrapping_add(before.waiting);
         figure.cost = figure.cost.wrapping_add(before.cost);
+        figure.paced = figure.paced.wrapping_add(before.paced);
+        figure.needed = figure.needed.wrapping_add(before.needed);
+        figure.in_flight = figure.in_flight.wrapping_add(before.in_flight);
         figure.openings = openings(net, round);
         before = *figure;
     }
     Ok(figures)
 }
 
-// How many were sent in each round, and by how much more waited in it than in the round before, and cost more: wrapped where
-// it is less. A stay that is sent doesn't wait in the round of its send.
+// How many were sent in each round, and by how much more waited in it than in the round before, cost more, and were in flight:
+// wrapped where it is less. A stay that is sent doesn't wait in the round of its send.
 fn changes(
     alloc: Global,
     rounds: u32,
@@ -50,17 +60,37 @@ fn changes(
     let mut changes = vec![in alloc; RoundFigures::default(); rounds as usize]?;
     for stay in stays {
         let weight = u64::from(stay.weight);
-        if let Some(came) = changes.get_mut((stay.arrival as usize).saturating_sub(1)) {
+        if let Some(came) = figure_in(&mut changes, stay.arrival) {
             came.waiting = came.waiting.wrapping_add(1);
             came.cost = came.cost.wrapping_add(weight);
+            came.needed = came.needed.wrapping_add(weight);
+            if stay.pace.is_some() {
+                came.paced = came.paced.wrapping_add(weight);
+            }
         }
-        if let Some(sent) = changes.get_mut((stay.live as usize).saturating_sub(1)) {
+        if let Some(sent) = figure_in(&mut changes, stay.live) {
             sent.sent = sent.sent.saturating_add(1);
+            sent.in_flight = sent.in_flight.wrapping_add(1);
             sent.waiting = sent.waiting.wrapping_sub(1);
             sent.cost = sent.cost.wrapping_sub(weight);
         }
+        let last = stay.done.unwrap_or(stay.live);
+        if let Some(after) = figure_in(&mut changes, last.saturating_add(1)) {
+            after.in_flight = after.in_flight.wrapping_sub(1);
+        }
+        if let Some(paced) = figure_in(&mut changes, stay.pace.unwrap_or(0)) {
+            paced.paced = paced.paced.wrapping_sub(weight);
+        }
+        if let Some(best) = figure_in(&mut changes, stay.best) {
+            best.needed = best.needed.wrapping_sub(weight);
+        }
     }
     Ok(changes)
+}
+
+// Those of a round, if there is such a round.
+fn figure_in(figures: &mut [RoundFigures], round: u32) -> Option<&mut RoundFigures> {
+    figures.get_mut((round as usize).checked_sub(1)?)
 }
 
 // How many the adapters took in the round at most.

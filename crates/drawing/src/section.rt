@@ -8,7 +8,7 @@ use crate::round_range::{MAX_BARS, RoundRange};
 use crate::scene::Scene;
 use crate::shades::cell_rounds;
 use std::alloc::AllocError;
-use wording::{Page, push_numbers, push_share, push_span};
+use wording::{Page, push_end, push_numbers, push_share};
 
 /// Puts the drawings of the ranges on the page, below how they are coloured.
 pub(crate) fn push_ranges(
@@ -38,7 +38,7 @@ fn push_choice(page: &mut Page, scene: &Scene, choice: &Choice) {
             page,
             &[
                 (
-                    "A bar for each request in the dearest ",
+                    "A bar for each request in the costliest ",
                     choice.ranges.len() as u64,
                 ),
                 (" of all stretches of ", u64::from(choice.length)),
@@ -89,9 +89,9 @@ pub(crate) fn push_range_name(page: &mut Page, scene: &Scene, range: &RoundRange
     );
     if let Some(span) = scene.explanation.unit() {
         page.put(" (");
-        push_span(page, span, u64::from(range.first.saturating_sub(1)));
+        push_end(page, span, u64::from(range.first.saturating_sub(1)));
         page.put(" to ");
-        push_span(page, span, u64::from(range.last));
+        push_end(page, span, u64::from(range.last));
         page.put(")");
     }
 }

@@ -34,7 +34,7 @@ label{padding:4px 0}
 .row{display:grid;grid-template-columns:13em minmax(0,1fr);gap:2px 12px;margin:0 0 4px;align-items:start}
 .row .label{margin:0;font-size:13px;line-height:1.2}
 .shared .label{color:var(--soft)}
-.q{fill:var(--df)}.used{fill:var(--h)}
+.q,.needed{fill:var(--df)}.idle{fill:var(--ca)}.order{fill:var(--er)}.used{fill:var(--h)}
 .cap{fill:none;stroke:var(--ink);stroke-width:1px;vector-effect:non-scaling-stroke}
 .shut{fill:none;stroke:var(--er);stroke-width:2px;stroke-dasharray:2 2;vector-effect:non-scaling-stroke}
 .chart rect{fill:var(--ink);fill-opacity:.06;stroke:var(--soft);stroke-width:1px;vector-effect:non-scaling-stroke}
@@ -60,10 +60,11 @@ table{border-collapse:collapse;font-variant-numeric:tabular-nums;margin:0 0 20px
 caption{text-align:left;font-weight:600;padding:0 0 4px}
 th,td{padding:3px 8px;text-align:right;border-bottom:1px solid var(--line);vertical-align:top}
 thead th{color:var(--soft);font-weight:500;font-size:13px;vertical-align:bottom}
-th:first-child,#stays td:nth-child(2),#stays td:nth-child(3),#stays td:last-child,#stays th:last-child{text-align:left}
+th:first-child,#stays :is(th,td):is(:nth-child(2),:nth-child(3),:last-child){text-align:left}
+#stays a,#stays span{white-space:nowrap}
 th[scope=row]{font-weight:500}
 h1,.label,.legend li,th[scope=row],#stays td:nth-child(2),#stays td:nth-child(3){overflow-wrap:anywhere}
-#stays th[scope=row],#stays td:nth-child(2),#stays td:nth-child(3){min-width:6.5em}
+#stays th[scope=row],#stays td:nth-child(2),#stays td:nth-child(3){min-width:7.5em}
 #words dt{font-weight:600}#words dd{margin:0 0 6px;max-width:80ch}
 @media(max-width:1059px){main{padding:12px}.row{grid-template-columns:minmax(0,1fr)}
 .wide,.wide tbody,.wide tr,.wide caption{display:block}.wide thead{position:absolute;width:1px;height:1px;overflow:hidden;clip-path:inset(50%)}
@@ -74,6 +75,7 @@ h1,.label,.legend li,th[scope=row],#stays td:nth-child(2),#stays td:nth-child(3)
 .waits td:nth-child(5)::before{content:'p90'}.waits td:nth-child(6)::before{content:'p99'}.waits td:nth-child(7)::before{content:'p99.9'}
 .waits td:nth-child(8)::before{content:'max'}.waits td:nth-child(9)::before{content:'live'}.waits td:nth-child(10)::before{content:'best'}
 .waits td:nth-child(11)::before{content:'excess'}
+#stays br{display:none}#stays td:nth-child(n){min-width:0}
 #stays td:nth-child(4)::before{content:'priority'}#stays td:nth-child(5)::before{content:'arrival'}#stays td:nth-child(6)::before{content:'sent'}
 #stays td:nth-child(7)::before{content:'best'}#stays td:nth-child(8)::before{content:'waited'}#stays td:nth-child(9)::before{content:'cost'}}
 @media(max-width:599px){.narrow,.narrow tbody,.narrow tr,.narrow caption{display:block}

@@ -2,15 +2,19 @@
 
 use crate::scene::Scene;
 use cam_types::Config;
+use recording_file::Span;
 use wait_causes::{Part, WaitCause};
-use wording::{Page, push_number, push_numbers, push_rounds, push_share, push_signed};
+use wording::{Page, push_number, push_numbers, push_rounds, push_share, push_signed, push_span};
 
 /// Puts the sentences and totals on the page.
 pub(crate) fn push_summary(page: &mut Page, scene: &Scene) {
     let (whole, rounds) = (&scene.whole, u64::from(scene.net.rounds()));
     page.put("<div id='summary'>\n<p>");
     push_waited(page, scene, rounds);
-    push_avoidable(page, whole);
+    match whole.pace {
+        Some(pace) => push_parts(page, scene.explanation.unit(), whole, pace),
+        None => push_avoidable(page, whole),
+    }
     page.put("</p>\n");
     if whole.live > 0 {
         page.put("<p>");
@@ -51,6 +55,35 @@ fn push_avoidable(page: &mut Page, whole: &Part) {
     push_numbers(page, &[("<b>", excess)], "</b> were avoidable (excess), ");
     push_share(page, excess, whole.live);
     page.put(".");
+}
+
+// Says what of the cost of a recording was avoidable, by what.
+fn push_parts(page: &mut Page, unit: Option<Span>, whole: &Part, pace: u64) {
+    let parts = [
+        ("", whole.live.saturating_sub(pace), "</b> by order alone, "),
+        (
+            "; <b>",
+            pace.saturating_sub(whole.best),
+            "</b> by slots that stood idle, ",
+        ),
+        ("; and <b>", whole.best, "</b> was needed, "),
+    ];
+    page.put("of which <b>");
+    for (before, cost, words) in &parts {
+        page.put(before);
+        push_cost(page, unit, *cost);
+        page.put(words);
+        push_share(page, *cost, whole.live);
+    }
+    page.put(".");
+}
+
+// Puts a cost on the page: as time by weight, if it is known how long a round is, or else in weighted rounds.
+fn push_cost(page: &mut Page, unit: Option<Span>, cost: u64) {
+    match unit {
+        Some(span) => push_span(page, span, cost),
+        None => push_number(page, cost),
+    }
 }
 
 // Says which cause cost most.

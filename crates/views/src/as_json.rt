@@ -9,12 +9,14 @@ pub use prove::prove_json;
 pub use sweep_object::sweep_json;
 
 mod audit;
+mod blame_table;
 mod causes;
 mod check;
 mod compare;
 mod counts;
 mod explain;
 mod freezes;
+mod limits;
 mod line;
 mod members;
 mod part;

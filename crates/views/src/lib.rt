@@ -5,6 +5,7 @@
 pub use as_json::{audit_json, check_json, compare_json, explain_json, prove_json, sweep_json};
 pub use compare::compare_page;
 pub use compared::Compared;
+pub use limited::Limited;
 pub use notes::{recording_note, report_note, shown_lines, shown_name, trace_note, unsent_note};
 pub use swept::{Swept, sweep_page};
 pub use text::page;
@@ -14,6 +15,7 @@ mod as_json;
 mod behind;
 mod compare;
 mod compared;
+mod limited;
 mod notes;
 mod pair;
 mod pairing;

@@ -3,11 +3,14 @@
 pub(crate) use columns::push_columns;
 pub use layout::page;
 
+mod blame_table;
 mod columns;
 mod freezes;
 mod layout;
+mod limits;
 mod order;
 mod stays;
 mod tables;
+mod totals;
 mod weights;
 mod worst;

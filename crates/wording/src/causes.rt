@@ -3,10 +3,11 @@
 use round_net::WaitCause;
 use wait_causes::InputKind;
 
-/// The cause in the words of people who look after storage. A trace says what its transport knew; of a recording they say what
-/// was seen, since it is not known of any scheduler why it started nothing, or no more.
-pub fn plain_words(kind: InputKind, cause: WaitCause) -> &'static str {
+/// The cause in the words of people who look after storage. A trace says what its transport knew. Of a recording they say what
+/// was seen: by completions, whether there was room; without them only whether others were started.
+pub fn plain_words(kind: InputKind, completions: bool, cause: WaitCause) -> &'static str {
     match (kind, cause) {
+        (InputKind::Recording, cause) if completions => seen_words(cause),
         (_, WaitCause::Error) => "frozen for error recovery",
         (_, WaitCause::Caller) => "frozen by the driver",
         (_, WaitCause::AdapterFrozen) => "host frozen by the driver",
@@ -20,5 +21,19 @@ pub fn plain_words(kind: InputKind, cause: WaitCause) -> &'static str {
         (InputKind::Trace, WaitCause::AdapterFull) => "host tags used",
         (InputKind::Trace, WaitCause::LinkFull) => "all that the link takes was used",
         (_, WaitCause::NotAsked) => "could start, and nobody asked",
+    }
+}
+
+// What is seen of a recording that says when requests were completed.
+fn seen_words(cause: WaitCause) -> &'static str {
+    match cause {
+        WaitCause::DeviceStopped => "it took nothing, and no start more would have fit",
+        WaitCause::AdapterStopped => "the host took nothing",
+        WaitCause::LinkStopped => "the link took nothing",
+        WaitCause::DeviceFull => "slots came free, and others took them",
+        WaitCause::AdapterFull => "others took what the host takes",
+        WaitCause::LinkFull => "others took what the link takes",
+        WaitCause::NotAsked => "there was room, and the scheduler held back",
+        WaitCause::Error | WaitCause::Caller | WaitCause::AdapterFrozen => "frozen",
     }
 }

@@ -6,8 +6,8 @@ pub use captions::{Captions, shortened};
 pub use causes::plain_words;
 pub use making::Page;
 pub use numbers::{
-    nanoseconds, push_number, push_numbers, push_range, push_round, push_rounds, push_share,
-    push_signed, push_span, push_time, shift,
+    nanoseconds, push_end, push_nanoseconds, push_number, push_numbers, push_range, push_round,
+    push_rounds, push_share, push_signed, push_span, push_time, shift, spelled,
 };
 
 mod captions;

@@ -2,6 +2,7 @@
 
 use crate::making::Page;
 use recording_file::{Span, TimeUnit};
+use std::alloc::{AllocError, Global};
 
 /// Puts a number on the page, with commas between its thousands.
 pub fn push_number(page: &mut Page, number: u64) {
@@ -69,15 +70,60 @@ pub fn push_time(page: &mut Page, unit: Option<Span>, rounds: u64) {
     }
 }
 
-/// Puts how long that many rounds of this length are on the page, in the largest unit of which there is one, to a hundredth.
+/// Puts how long that many rounds of this length are on the page, as `push_nanoseconds` does.
 pub fn push_span(page: &mut Page, span: Span, rounds: u64) {
-    let all = u128::from(nanoseconds(span)).saturating_mul(u128::from(rounds));
+    push_nanoseconds(
+        page,
+        u128::from(nanoseconds(span)).saturating_mul(u128::from(rounds)),
+    );
+}
+
+/// Puts the time at which that many rounds of this length are over on the page, from the beginning of round 1 and to a hundredth of
+/// the largest unit of which there is one.
+pub fn push_end(page: &mut Page, span: Span, rounds: u64) {
+    push_exactly(
+        page,
+        u128::from(nanoseconds(span)).saturating_mul(u128::from(rounds)),
+    );
+}
+
+/// Puts a time on the page: at most three digits that count, in the largest unit of which there is one, as `3.87 ms`.
+pub fn push_nanoseconds(page: &mut Page, time: u128) {
+    push_exactly(page, three_digits(time));
+}
+
+fn push_exactly(page: &mut Page, all: u128) {
     match all {
-        0..=999 => page.show(format_args!("{all} ns")),
+        0 => page.put("0 s"),
+        1..=999 => page.show(format_args!("{all} ns")),
         1_000..=999_999 => push_hundredths(page, all / 10, " us"),
         1_000_000..=999_999_999 => push_hundredths(page, all / 10_000, " ms"),
         _ => push_hundredths(page, all / 10_000_000, " s"),
     }
+}
+
+// The number with three digits that count, rounded half up.
+fn three_digits(number: u128) -> u128 {
+    let mut first = number;
+    let mut step: u128 = 1;
+    for _ in 0..36 {
+        if first >= 1_000 {
+            first /= 10;
+            step = step.saturating_mul(10);
+        }
+    }
+    let step = step.max(1);
+    (number.saturating_add(step / 2) / step).saturating_mul(step)
+}
+
+/// How long that many rounds are, if it is known how long one is, or else how many they are.
+pub fn spelled(alloc: Global, unit: Option<Span>, rounds: u64) -> Result<String, AllocError> {
+    let mut page = Page::new(alloc);
+    match unit {
+        Some(span) => push_span(&mut page, span, rounds),
+        None => page.show(rounds),
+    }
+    page.finish()
 }
 
 /// How many nanoseconds a span has.
@@ -106,7 +152,11 @@ fn push_hundredths(page: &mut Page, hundredths: u128, unit: &str) {
 /// Puts the number of a round on the page, with the time at which it ended.
 pub fn push_round(page: &mut Page, unit: Option<Span>, round: u32) {
     push_number(page, u64::from(round));
-    push_time(page, unit, u64::from(round));
+    if let Some(span) = unit {
+        page.put(" (");
+        push_end(page, span, u64::from(round));
+        page.put(")");
+    }
 }
 
 /// Puts how many rounds these are on the page, with their time.

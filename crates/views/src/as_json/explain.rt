@@ -4,14 +4,18 @@ ghost use Rattle.std.specs.Prelude.{◌≡◌, string_bytes, IfOk};
 ghost use Rattle.json.specs.Lex.{tokens};
 ghost use Rattle.json.specs.Print.{print};
 
+use crate::as_json::blame_table::Blame;
 use crate::as_json::freezes::Freezes;
+use crate::as_json::limits::Limits;
 use crate::as_json::line::line;
 use crate::as_json::members::put_member;
 use crate::as_json::part::put_costs;
 use crate::as_json::row::put_row;
 use crate::as_json::stays::Stays;
 use crate::compared::Compared;
+use crate::limited::Limited;
 use crate::tables::{GROUPINGS, tables_of};
+use blame::blame_of;
 use round_net::Net;
 use serde::{Described, Serialize, Serializer};
 use std::alloc::{AllocError, Global};
@@ -23,7 +27,10 @@ struct Explained<'a> {
     whole: Part,
     tables: Vec<Vec<Row>>,
     freezes: Freezes,
+    limits: Limits<'a>,
+    blame: Option<(Blame, Blame)>,
     stays: Stays<'a>,
+    lists_stays: bool,
 }
 
 impl Described for Explained<'_> {}
@@ -40,7 +47,16 @@ impl Serialize for Explained<'_> {
             put_rows(out, self.stays.alloc, input, *by, rows)?;
         }
         put_member(out, "freezes", &self.freezes)?;
-        put_member(out, "list", &self.stays)?;
+        if !self.limits.list.is_empty() {
+            put_member(out, "slo", &self.limits)?;
+        }
+        if let Some((drivers, levels)) = &self.blame {
+            put_member(out, "blame", drivers)?;
+            put_member(out, "level_blame", levels)?;
+        }
+        if self.lists_stays {
+            put_member(out, "list", &self.stays)?;
+        }
         out.end_map()
     }
 }
@@ -62,14 +78,17 @@ fn put_rows<S: Serializer>(
 
 /// A line without its line feed: the counts of the net, how many nanoseconds a round has where that is known, what its live
 /// schedule and the other one cost in weighted rounds, the difference, and the live cost by cause and by what full rows sent; the
-/// tables by adapter, device, driver and run level; the freezes; and all stays in creation order, each with its first waits, at
-/// most so many, and what the others cost together. Any text may be the name.
+/// tables by adapter, device, driver and run level; the freezes; how the limits were kept, if there are some; who waited for whom, if
+/// that is asked for; and, if they are asked for, all stays in creation order, each with
+/// its first waits, at most so many, and what the others cost together. Any text may be the name.
 pub fn explain_json(
     alloc: Global,
     trace: &str,
     net: &Net,
     explanation: &Explanation,
-    max_waits: usize,
+    limits: &[Limited<'_>],
+    max_waits: Option<usize>,
+    has_blame: bool,
 ) -> Result<String, AllocError>
     ensures { IfOk result (λ s. string_bytes s ≡ print (tokens (string_bytes s))) }
 {
@@ -84,11 +103,28 @@ pub fn explain_json(
         freezes: Freezes {
             list: explanation.freezes(alloc)?,
         },
+        limits: Limits { list: limits },
+        blame: if has_blame {
+            Some((
+                blame_by(alloc, explanation, Grouping::Driver)?,
+                blame_by(alloc, explanation, Grouping::Level)?,
+            ))
+        } else {
+            None
+        },
         stays: Stays {
             alloc,
             input,
-            most: max_waits,
+            most: max_waits.unwrap_or(0),
         },
+        lists_stays: max_waits.is_some(),
     };
     line(alloc, &explained)
+}
+
+// Who was in the way by this.
+fn blame_by(alloc: Global, explanation: &Explanation, by: Grouping) -> Result<Blame, AllocError> {
+    Ok(Blame {
+        list: blame_of(alloc, explanation, by)?,
+    })
 }

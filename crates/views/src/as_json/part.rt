@@ -4,7 +4,7 @@ use crate::as_json::causes::{put_cause, put_cause_shifts};
 use crate::as_json::members::{put_member, put_members, put_object};
 use crate::compared::Compared;
 use serde::Serializer;
-use wait_causes::Part;
+use wait_causes::{Latency, Part};
 use wording::shift;
 
 /// How many rounds the stays of a part waited: together, and the median, 90 %, 99 %, 99.9 % and longest wait.
@@ -28,14 +28,19 @@ fn behind_of(part: &Part) -> [(&'static str, u64); 3] {
     ]
 }
 
-/// Writes what the waiting of a part of an input cost in weighted rounds: by the live schedule, by the other one, the difference,
-/// and the live cost by cause and, of full rows, by what they sent.
+/// Writes what the waiting of a part of an input cost in weighted rounds: as it was, of a recording in the best schedule at the
+/// recorded pace, in the best one, the excess, and the live cost by cause and, of full resources, by what they sent; and the
+/// latency, if completions are known.
 pub(crate) fn put_costs<S: Serializer>(
     out: &mut S,
     input: Compared<'_>,
     part: &Part,
 ) -> Result<(), S::Error> {
-    put_members(out, &[("live", part.live), ("best", part.best)])?;
+    put_member(out, "live", &part.live)?;
+    if let Some(pace) = part.pace {
+        put_member(out, "pace", &pace)?;
+    }
+    put_member(out, "best", &part.best)?;
     put_member(out, "excess", &part.excess())?;
     out.key("causes")?;
     out.begin_map(None)?;
@@ -44,7 +49,26 @@ pub(crate) fn put_costs<S: Serializer>(
     }
     out.end_map()?;
     out.key("full_behind")?;
-    put_object(out, &behind_of(part))
+    put_object(out, &behind_of(part))?;
+    match &part.latency {
+        Some(latency) => {
+            out.key("latency")?;
+            put_object(out, &latency_of(latency))
+        }
+        None => Ok(()),
+    }
+}
+
+// Of how many requests of a part the completion is known, and the rounds from their arrivals to it.
+fn latency_of(latency: &Latency) -> [(&'static str, u32); 6] {
+    [
+        ("stays", latency.stays),
+        ("p50", latency.p50),
+        ("p90", latency.p90),
+        ("p99", latency.p99),
+        ("p999", latency.p999),
+        ("max", latency.max),
+    ]
 }
 
 /// Writes an object of how much more each number of a part is after a change.
@@ -62,7 +86,11 @@ pub(crate) fn put_shifts<S: Serializer>(
         shift(before.best, after.best),
     );
     let excess = live.saturating_sub(best);
-    put_members(out, &[("live", live), ("best", best), ("excess", excess)])?;
+    put_member(out, "live", &live)?;
+    if let (Some(was), Some(is)) = (before.pace, after.pace) {
+        put_member(out, "pace", &shift(was, is))?;
+    }
+    put_members(out, &[("best", best), ("excess", excess)])?;
     out.key("causes")?;
     put_cause_shifts(out, &before.costs, &after.costs)?;
     out.key("full_behind")?;

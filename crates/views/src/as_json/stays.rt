@@ -30,7 +30,7 @@ impl Serialize for Stays<'_> {
     }
 }
 
-// Writes a stay, where both schedules send it, and why it waited.
+// Writes a stay, where the schedules send it, and why it waited.
 fn put_stay<S: Serializer>(
     out: &mut S,
     input: Compared<'_>,
@@ -49,9 +49,12 @@ fn put_stay<S: Serializer>(
             ("weight", u32::from(stay.weight)),
             ("arrival", stay.arrival),
             ("live", stay.live),
-            ("best", stay.best),
         ],
     )?;
+    if let Some(pace) = stay.pace {
+        put_member(out, "pace", &pace)?;
+    }
+    put_member(out, "best", &stay.best)?;
     put_waits(out, &waits.listed)?;
     if waits.more > 0 {
         put_more(out, input, stay, waits)?;

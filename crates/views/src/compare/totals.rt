@@ -11,6 +11,20 @@ pub(crate) fn push_totals(page: &mut Page, before: &Part, after: &Part) {
     for ((name, was), (_, is)) in totals_of(before).iter().zip(&totals_of(after)) {
         push_line(page, name, *was, *is);
     }
+    if let (Some(was), Some(is)) = (before.pace, after.pace) {
+        for ((name, was), (_, is)) in parts_of(before, was).iter().zip(&parts_of(after, is)) {
+            push_line(page, name, *was, *is);
+        }
+    }
+}
+
+// The parts of what a recording's waiting cost, and costs at the recorded pace.
+fn parts_of(part: &Part, pace: u64) -> [(&'static str, u64); 3] {
+    [
+        ("by order", part.live.saturating_sub(pace)),
+        ("by idle slots", pace.saturating_sub(part.best)),
+        ("needed", part.best),
+    ]
 }
 
 // The numbers of a part.

@@ -4,18 +4,17 @@ use crate::text::columns::push_columns;
 use recording_file::Span;
 use std::alloc::{AllocError, Global};
 use wait_causes::{ExplainedStay, Explanation, InputKind};
-use wording::{Captions, Page, push_range, push_time, shortened};
+use wording::{Captions, Page, push_range, push_time, shortened, spelled};
 
 // What stands above the stays of a trace, and above the requests of a recording.
 const TRACE_HEAD: &str = "\nThe stays whose waiting cost most:\n\n  CCB try";
 
 const RECORDING_HEAD: &str = "\nThe requests whose waiting cost most:\n\n  request";
 
-// What stands above the columns after the device.
-const HEAD: &str = "priority arrival  sent  best      cost  waited";
+// What stands above the columns after the device, of a trace and of a recording.
+const TRACE_COLUMNS: &str = "priority arrival  sent  best      cost  waited";
 
-// How many causes stand on a line.
-const A_LINE: u32 = 3;
+const RECORDING_COLUMNS: &str = "priority arrival  sent  pace  best      cost  waited";
 
 /// Puts at most that many of the stays at these places on the page, with how many rounds they waited for each cause.
 pub(crate) fn push_stays(
@@ -23,6 +22,7 @@ pub(crate) fn push_stays(
     page: &mut Page,
     captions: Captions<'_>,
     explanation: &Explanation,
+    unit: Option<Span>,
     places: &[usize],
     top: usize,
 ) -> Result<(), AllocError> {
@@ -30,25 +30,34 @@ pub(crate) fn push_stays(
         return Ok(());
     }
     let (stays, kind) = (explanation.stays(), explanation.kind());
-    page.put(match kind {
-        InputKind::Trace => TRACE_HEAD,
-        InputKind::Recording => RECORDING_HEAD,
-    });
+    let (head, columns) = match kind {
+        InputKind::Trace => (TRACE_HEAD, TRACE_COLUMNS),
+        InputKind::Recording => (RECORDING_HEAD, RECORDING_COLUMNS),
+    };
     let width = captions.width().saturating_sub(2);
-    page.show(format_args!("  {:<width$} {HEAD}\n", "path"));
+    page.put(head);
+    page.show(format_args!("  {:<width$} {columns}\n", "path"));
     for place in places.iter().take(top) {
         if let Some(stay) = stays.get(*place) {
             let device = shortened(alloc, &captions.device(alloc, stay.device)?)?;
-            push_stay(page, kind, &device, width, stay);
-            push_waits(page, kind, stay, width);
-            push_span(page, explanation.unit(), stay);
+            push_stay(alloc, page, kind, unit, &device, width, stay)?;
+            push_waits(page, kind, stay, width.saturating_add(before_waits(kind)));
+            push_span(page, unit, stay);
         }
     }
     Ok(())
 }
 
 // The columns of a stay on a device that is called so, up to its causes.
-fn push_stay(page: &mut Page, kind: InputKind, device: &str, width: usize, stay: &ExplainedStay) {
+fn push_stay(
+    alloc: Global,
+    page: &mut Page,
+    kind: InputKind,
+    unit: Option<Span>,
+    device: &str,
+    width: usize,
+    stay: &ExplainedStay,
+) -> Result<(), AllocError> {
     match kind {
         InputKind::Trace => page.show(format_args!("{:>5} {:>3}", stay.ccb, stay.attempt)),
         InputKind::Recording => page.show(format_args!("{:>9}", stay.ccb)),
@@ -60,20 +69,39 @@ fn push_stay(page: &mut Page, kind: InputKind, device: &str, width: usize, stay:
             (8, i128::from(stay.priority)),
             (7, i128::from(stay.arrival)),
             (5, i128::from(stay.live)),
-            (5, i128::from(stay.best)),
-            (9, i128::from(stay.cost())),
         ],
     );
-    page.put("  ");
+    if let Some(pace) = stay.pace {
+        push_columns(page, &[(5, i128::from(pace))]);
+    }
+    let cost = spelled(alloc, unit, stay.cost())?;
+    page.show(format_args!(" {:>5} {cost:>9}  ", stay.best));
+    Ok(())
 }
 
-// How many rounds a stay waited for each cause, three causes on a line; the device's column is so wide.
+// How wide the columns before the causes are, beside the device's.
+fn before_waits(kind: InputKind) -> usize {
+    match kind {
+        InputKind::Trace => 52,
+        InputKind::Recording => 58,
+    }
+}
+
+// Whether a cause after that many begins a line. In a recording there are two on a line, since its numbers are wider.
+fn begins_a_line(kind: InputKind, shown: u32) -> bool {
+    match kind {
+        InputKind::Trace => shown % 3 == 0,
+        InputKind::Recording => shown % 2 == 0,
+    }
+}
+
+// How many rounds a stay waited for each cause; what stands before these has that width.
 fn push_waits(page: &mut Page, kind: InputKind, stay: &ExplainedStay, width: usize) {
     let mut shown = 0u32;
     for cause in &kind.causes() {
         let rounds = stay.rounds.for_cause(*cause);
         if rounds > 0 {
-            push_between(page, shown, width);
+            push_between(page, kind, shown, width);
             page.show(format_args!("{rounds} {}", cause.name()));
             shown = shown.saturating_add(1);
         }
@@ -82,9 +110,9 @@ fn push_waits(page: &mut Page, kind: InputKind, stay: &ExplainedStay, width: usi
 }
 
 // What stands between a cause and that many before it.
-fn push_between(page: &mut Page, shown: u32, width: usize) {
-    if shown > 0 && shown % A_LINE == 0 {
-        page.show(format_args!(",\n{:<width$}", "", width = width.saturating_add(52)));
+fn push_between(page: &mut Page, kind: InputKind, shown: u32, width: usize) {
+    if shown > 0 && begins_a_line(kind, shown) {
+        page.show(format_args!(",\n{:<width$}", ""));
     } else if shown > 0 {
         page.put(", ");
     }

@@ -1,9 +1,10 @@
 //! A sentence each on the stay, the device and the freeze that cost most.
 
 use crate::text::freezes::{frozen_by, frozen_name};
+use recording_file::Span;
 use std::alloc::{AllocError, Global};
 use wait_causes::{ExplainedStay, Explanation, Freeze, Grouping, InputKind, Row};
-use wording::{Captions, Page, push_range, push_time};
+use wording::{Captions, Page, push_range, push_round, spelled};
 
 /// Puts the sentences on the stay and the freeze that cost most on the page, and on the device if a stay cost anything.
 pub(crate) fn push_worst(
@@ -11,12 +12,13 @@ pub(crate) fn push_worst(
     page: &mut Page,
     captions: Captions<'_>,
     explanation: &Explanation,
+    unit: Option<Span>,
     stay: Option<&ExplainedStay>,
     freeze: Option<&Freeze>,
 ) -> Result<(), AllocError> {
     if let Some(stay) = stay {
-        push_worst_stay(page, explanation, stay);
-        push_worst_device(alloc, page, captions, explanation)?;
+        push_worst_stay(alloc, page, explanation, unit, stay)?;
+        push_worst_device(alloc, page, captions, explanation, unit)?;
     }
     if let Some(freeze) = freeze {
         push_worst_freeze(page, &frozen_name(alloc, captions, freeze)?, freeze);
@@ -25,28 +27,34 @@ pub(crate) fn push_worst(
 }
 
 // Puts a sentence on the stay that cost most on the page.
-fn push_worst_stay(page: &mut Page, explanation: &Explanation, stay: &ExplainedStay) {
+fn push_worst_stay(
+    alloc: Global,
+    page: &mut Page,
+    explanation: &Explanation,
+    unit: Option<Span>,
+    stay: &ExplainedStay,
+) -> Result<(), AllocError> {
     match explanation.kind() {
         InputKind::Trace => page.show(format_args!("\nCCB {} (try {})", stay.ccb, stay.attempt)),
         InputKind::Recording => page.show(format_args!("\nRequest {}", stay.ccb)),
     }
-    page.show(format_args!(" cost most: {}, from ", stay.cost()));
-    push_round(page, explanation, stay.arrival);
-    page.put(" to its send in ");
-    push_round(page, explanation, stay.live);
+    let cost = spelled(alloc, unit, stay.cost())?;
+    page.show(format_args!(" cost most: {cost}, from round "));
+    push_round(page, unit, stay.arrival);
+    page.put(" to its send in round ");
+    push_round(page, unit, stay.live);
     // Rounds with their times make a line of their own for each send.
-    page.put(match explanation.unit() {
-        Some(_) => ".\nThe best schedule sends it in ",
-        None => "; the best schedule sends it in ",
+    page.put(match unit {
+        Some(_) => ".\nThe best schedule sends it in round ",
+        None => "; the best schedule sends it in round ",
     });
-    push_round(page, explanation, stay.best);
+    push_round(page, unit, stay.best);
+    if let Some(pace) = stay.pace {
+        page.put(", the best at the recorded pace in round ");
+        push_round(page, unit, pace);
+    }
     page.put(".\n");
-}
-
-// Puts a round on the page, and when it ended if that is known.
-fn push_round(page: &mut Page, explanation: &Explanation, round: u32) {
-    page.show(format_args!("round {round}"));
-    push_time(page, explanation.unit(), u64::from(round));
+    Ok(())
 }
 
 // Puts a sentence on the device whose stays cost most on the page, if one cost anything.
@@ -55,11 +63,13 @@ fn push_worst_device(
     page: &mut Page,
     captions: Captions<'_>,
     explanation: &Explanation,
+    unit: Option<Span>,
 ) -> Result<(), AllocError> {
     let rows = explanation.table(alloc, Grouping::Device)?;
     if let Some(row) = worst_row(&rows) {
         let device = captions.device(alloc, row.number)?;
-        page.show(format_args!("Of the devices {device} cost most: {}.\n", row.part.live));
+        let cost = spelled(alloc, unit, row.part.live)?;
+        page.show(format_args!("Of the devices {device} cost most: {cost}.\n"));
     }
     Ok(())
 }

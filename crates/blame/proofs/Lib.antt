@@ -1,0 +1,5 @@
+pub mod WayLemmas
+pub mod TotalLemmas
+pub mod AmountLemmas
+pub mod LawLemmas
+pub mod TableLemmas

@@ -1,0 +1,32 @@
+use Rattle.std.proofs.Common.{◌≡◌, ◌∙◌, ◌+◌, ◌++◌, ◌∷◌, [], ap, sym, subst, arith, length, get_or, take, List, Option}
+use Rattle.std.proofs.lemmas.List.{take_more, take_all}
+use Rattle.wait_causes.specs.declared.explained_stay.ExplainedStay.{ExplainedStay}
+use Rattle.wait_causes.proofs.CountingLemmas.{blank}
+use Rattle.blame.specs.InTheWay.{ArePut}
+use Rattle.blame.specs.Lists.{stays_in}
+use Rattle.blame.proofs.WayLemmas.{AreWays, ways_none, ways_more, ways_all, written_back}
+use Rattle.blame.proofs.in_way.in_way_of.Goals as goal
+
+pub loop-stay-init : goal.loop-stay-init
+loop-stay-init c = ways_none c.args.explanation.now.origin c.args.device c.rounds.result c.in_ok-ways.ways.items c.rounds.ensures c.in_ok-ways.ensures
+
+pub note-requires-clause-all : goal.note-requires-clause-all
+note-requires-clause-all c = ap (λ (ws : List (Option ExplainedStay)). length ws) c.deref_mut.ensures.value ∙ c.loop-stay.invariant.all
+
+pub loop-stay-preserved : goal.loop-stay-preserved
+loop-stay-preserved c =
+    let o = c.args.explanation.now.origin in
+    let stays : c.stays-stay-items.result.now ≡ stays_in c.args.explanation.now = c.stays-stay-items.ensures.stays in
+    let s : ExplainedStay = get_or c.stays-stay-items.result.now c.loop-stay.stay-index blank in
+    let whole : take (c.loop-stay.stay-index + 1) (stays_in c.args.explanation.now) ≡ take c.loop-stay.stay-index (stays_in c.args.explanation.now) ++ s ∷ [] =
+    ap (λ (xs : List ExplainedStay). take (c.loop-stay.stay-index + 1) xs) (sym stays) ∙ take_more c.stays-stay-items.result.now c.loop-stay.stay-index blank c.loop-stay-test.true ∙ ap (λ (xs : List ExplainedStay). take c.loop-stay.stay-index xs ++ s ∷ []) stays in
+    let put : ArePut o c.args.device s c.loop-stay.ways.items c.note.new.ways = rw (sym c.deref_mut.ensures.value) c.note.ensures in
+    let long : length c.loop-stay.ways.items ≡ c.loop-stay.ways.len = ap (λ (ws : List (Option ExplainedStay)). length ws) (sym c.deref_mut.ensures.value) ∙ c.deref_mut.ensures.len in
+    let back = written_back c.note.new.ways c.loop-stay.ways.items c.loop-stay.ways.len (put.all ∙ long) long in
+    rw (whole, back) (ways_more o c.args.device (take c.loop-stay.stay-index (stays_in c.args.explanation.now)) s c.loop-stay.ways.items c.note.new.ways c.loop-stay.invariant put)
+
+pub returns : goal.returns
+returns c =
+    let e = c.args.explanation.now in
+    let all : take c.loop-stay.stay-index (stays_in e) ≡ stays_in e = take_all c.loop-stay.stay-index (stays_in e) (omega (arith, ap (λ (xs : List ExplainedStay). length xs) c.stays-stay-items.ensures.stays, c.loop-stay-test.false)) in
+    ways_all e.origin c.args.device (stays_in e) c.loop-stay.ways.items (subst (λ (xs : List ExplainedStay). AreWays e.origin c.args.device xs c.loop-stay.ways.items) all c.loop-stay.invariant)

@@ -1,6 +1,7 @@
 """What `camxpt explain --json` and `camxpt compare --json` say of a trace or recording, reckoned anew from its text and from the
 report of `camxpt audit`."""
 import model
+import pace_model
 
 # How many waits of a stay are listed unless all are asked for.
 MAX_WAITS = 64
@@ -47,7 +48,7 @@ class Trace(model.Trace):
 
 
 class Recording(model.Recording):
-    """A recording with the causes of each round."""
+    """A recording with the causes of each round. A stay has the round `pace` of the best schedule at the recorded pace."""
 
     CAUSES = DEVICE_STOPPED, ADAPTER_STOPPED, LINK_STOPPED, *ENDS
     ends = ()
@@ -111,19 +112,32 @@ def costs(replay, stays):
             what = behind(replay, stay, round)
             if what:
                 full[what] += stay["weight"]
-    return {"causes": given, "full_behind": full}
+    return {"causes": given, "full_behind": full, **latency(replay, stays)}
 
 
-def totals(stays):
-    live = sum(stay["weight"] * len(waited(stay)) for stay in stays)
-    best = sum(stay["weight"] * (stay["best"] - stay["arrival"]) for stay in stays)
-    return {"live": live, "best": best, "excess": live - best}
+def ranks(numbers):
+    return {"p50": rank(numbers, 500), "p90": rank(numbers, 900), "p99": rank(numbers, 990), "p999": rank(numbers, 999),
+            "max": max(numbers, default=0)}
+
+
+def latency(replay, stays):
+    """The rounds from the arrivals of stays to their completions, if the recording says these."""
+    if getattr(replay, "version", 1) == 1:
+        return {}
+    done = [stay["done"] - stay["arrival"] for stay in stays if stay["done"] is not None]
+    return {"latency": {"stays": len(done), **ranks(done)}}
+
+
+def totals(replay, stays):
+    """What these stays cost in each schedule; a trace has none at the recorded pace."""
+    keys = ("live", "pace", "best") if hasattr(replay, "version") else ("live", "best")
+    costs = {key: sum(stay["weight"] * (stay[key] - stay["arrival"]) for stay in stays) for key in keys}
+    return {**costs, "excess": costs["live"] - costs["best"]}
 
 
 def part(replay, stays):
     waits = [len(waited(stay)) for stay in stays]
-    return {"stays": len(stays), "waited": sum(waits), "p50": rank(waits, 500), "p90": rank(waits, 900),
-            "p99": rank(waits, 990), "p999": rank(waits, 999), "max": max(waits, default=0), **totals(stays), **costs(replay, stays)}
+    return {"stays": len(stays), "waited": sum(waits), **ranks(waits), **totals(replay, stays), **costs(replay, stays)}
 
 
 def table(replay, key):
@@ -174,14 +188,17 @@ def listed(replay, stay, most):
     return {"waits": rows[:most], "more": more}
 
 
-def planned(text, report):
-    """The model of a text, each stay with the round that is best for it by the report."""
-    replay = model.read(text, Trace, Recording)
+def planned(text, report, trace=Trace, recording=Recording):
+    """The model of a text, of one of these kinds, each stay with the round that is best for it by the report."""
+    replay = model.read(text, trace, recording)
     best = [[int(number) for number in line.split()[1:]] for line in report.splitlines() if line.startswith("stay ")]
     for stay, (ccb, attempt, arrival, live, round, weight) in zip(replay.stays, best, strict=True):
         if (stay["ccb"], stay["try"], stay["arrival"], stay["live"], stay["weight"]) != (ccb, attempt, arrival, live, weight):
             raise ValueError(f"the report has another stay {ccb} {attempt}")
         stay["best"] = round
+    if hasattr(replay, "version"):
+        for stay, round in zip(replay.stays, pace_model.paced_rounds(text, replay), strict=True):
+            stay["pace"] = round
     return replay
 
 
@@ -189,9 +206,9 @@ def explained(name, text, report, most=MAX_WAITS):
     """The object, from the texts of the trace or recording and of the report."""
     replay = planned(text, report)
     counts = {word: int(number) for word, number in (line.split() for line in report.splitlines()[1:7])}
-    keys = "ccb", "try", "driver", "device", "priority", "weight", "arrival", "live", "best"
-    own = {"commands": len(replay.commands), "stays": len(replay.stays), "rounds": replay.round, **totals(replay.stays)}
-    if own != counts:
+    keys = ["ccb", "try", "driver", "device", "priority", "weight", "arrival", "live", *["pace"] * hasattr(replay, "version"), "best"]
+    own = {"commands": len(replay.commands), "stays": len(replay.stays), "rounds": replay.round, **totals(replay, replay.stays)}
+    if {key: own[key] for key in counts} != counts:
         raise ValueError(f"the report has other counts: {counts}, not {own}")
     rows = replay.weights or model.STANDARD
     weights = {"weights": [{"last": last, "weight": weight} for last, weight in rows]} if rows != model.STANDARD else {}

@@ -77,6 +77,8 @@ class Options:
     begin: int = 0
     end: int = 2**64
     hosts: tuple[tuple[str, int, int], ...] = ()
+    rated: tuple[tuple[str, int], ...] = ()
+    depths: tuple[tuple[str, int], ...] = ()
 
     def listed(self, name: str) -> str | None:
         return next((it for pick in self.picks if (it := takes(pick, name)) is not None), None) if self.picks else name

@@ -1,6 +1,6 @@
 #!/usr/bin/env python3
-"""Puts the requests of a capture into rounds anew, plainly: how long a round is, the caps of devices and adapters round by round,
-and what to beware of."""
+"""What `import` says of a capture, reckoned anew and plainly: how long a round is, runs of caps, times in words, and what to beware
+of. `slots_model.py` has the caps."""
 import csv
 import io
 
@@ -67,52 +67,13 @@ def usual_round(reader, taken):
     return exact(usual) if usual >= shortest else None
 
 
-def on_adapters(reader, options):
-    """The adapter of each device, and the openings of each adapter, or None if nobody says them."""
-    given = {device: (adapter, openings) for device, adapter, openings in options.hosts}
-    last = max((given[device][0] for device in reader.devices if device in given), default=-1)
-    has_shared = not all(device in given for device in reader.devices)
-    of = [given[device][0] if device in given else last + 1 for device in reader.devices]
-    message = {given[device][0]: given[device][1] for device in reader.devices if device in given}
-    return of, [message.get(number) for number in range(last + 1 + has_shared)]
-
-
-def recording(reader, taken, span, unit):
-    """The text of the recording of the requests that were started, in rounds of that many nanoseconds, and how many rounds it has."""
-    begin = taken[0].arrival
-    at = lambda time: 1 + (time - begin) // span
-    last = max(at(request.started) for request in taken)
-    rounds = range(1, last + 1)
-    adapters, message = on_adapters(reader, reader.options)
-    devices, sent, usual, caps_of = [], [], [], []
-    for number, device in enumerate(reader.devices):
-        own = [request for request in taken if request.device == device]
-        sent.append([sum(at(r.started) == round for r in own) for round in rounds])
-        pressed = [any(at(r.arrival) <= round < at(r.started) for r in own) for round in rounds]
-        usual.append(min(255, max(1, lower_median([n for n, is_pressed in zip(sent[-1], pressed) if is_pressed]))))
-        caps_of.append([n if is_pressed else max(n, usual[-1]) for n, is_pressed in zip(sent[-1], pressed)])
-        devices.append(("dev", adapters[number], adapters[: number + 1].count(adapters[number]), 0, usual[-1]))
-    sims, sim_caps = [], []
-    for number, openings in enumerate(message):
-        on = [device for device, adapter in enumerate(adapters) if adapter == number]
-        loads = [sum(sent[device][at] for device in on) for at in range(last)]
-        together = sum(usual[device] for device in on)
-        sims.append(openings or max(1, min(MAX_OPENINGS, together)))
-        least = [0] * last if openings else [sum(caps_of[device][at] for device in on) for at in range(last)]
-        numbers = [min(MAX_CAP, max(sims[-1], *both)) for both in zip(loads, least)]
-        sim_caps.append([MAX_CAP] * last if not openings and together > MAX_OPENINGS else numbers)
-    rows = [("camrecord1", *"abcdefg"), ("unit", *unit), ("rounds", last)]
-    rows += [("weight", *row) for row in WEIGHTS] + [("sim", openings) for openings in sims] + devices
-    for kind, all in ("driver", reader.drivers), ("dev", reader.devices):
-        rows += [("name", kind, number, name) for number, name in enumerate(all) if is_name(name)]
-    for kind, all, least in ("dev", caps_of, usual), ("sim", sim_caps, sims):
-        rows += [("cap", kind, number, *run) for number, numbers in enumerate(all) for run in caps(numbers, least[number])]
-    for request in taken:
-        start = at(request.started)
-        end = max(start, at(request.retried) - 1) if request.retried is not None else last
-        rows.append(("request", reader.drivers.index(request.driver), reader.devices.index(request.device), request.priority,
-                     at(request.arrival), end if end < last else "", start))
-    return spelled(rows), last
+def in_digits(time):
+    """That many nanoseconds in three digits that count, in the largest unit of which there is one."""
+    step = 10 ** max(0, len(str(time)) - 3)
+    rounded = (time + step // 2) // step * step
+    unit, size = next((it for it in reversed(UNITS.items()) if rounded >= it[1]), ("ns", 1))
+    rest = str(rounded % size).zfill(len(str(size)) - 1).rstrip("0") if size > 1 else ""
+    return f"{rounded // size:,}{'.' * bool(rest)}{rest} {unit}"
 
 
 def warnings(reader, taken, half, span):

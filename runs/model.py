@@ -162,7 +162,7 @@ class Recording(Input):
     def __init__(self, text):
         self.caps = {}
         super().__init__(text)
-        self.commands = self.stays
+        self.commands, self.version = self.stays, int(self.header[0].removeprefix("camrecord"))
 
     def on_unit(self, count, unit, *_):
         self.unit, self.unit_fields = int(count) * NANOSECONDS[unit], [count, unit]
@@ -177,9 +177,9 @@ class Recording(Input):
         for round in range(int(first), int(last) + 1):
             self.caps[kind, int(number), round] = int(most)
 
-    def on_request(self, driver, device, priority, arrival, last, sent, *_):
+    def on_request(self, driver, device, priority, arrival, last, sent, done="", *_):
         self.stays.append({"ccb": len(self.stays), "try": 0, **self.command(driver, device, priority), "arrival": int(arrival),
-                           "last": int(last) if last else None, "live": int(sent)})
+                           "last": int(last) if last else None, "live": int(sent), "done": int(done) if done else None})
 
     def cap(self, kind, number, round):
         return self.caps.get((kind, number, round), self.openings(kind, number))

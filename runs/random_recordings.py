@@ -31,7 +31,8 @@ def recording(number):
     links = [rng.randint(1, 3) for _ in range(rng.choice([0, 0, 1, 2]))]
     adapters = [(rng.randint(1, 3), rng.choice([None, *range(len(links))])) for _ in range(rng.randint(1, 3))]
     devices = [(rng.randrange(len(adapters)), target, rng.randint(1, 2)) for target in range(rng.randint(1, 5))]
-    rows = [record("camrecord1", *"abcdefg")]
+    version = rng.choice([1, 2])
+    rows = [record(f"camrecord{version}", *"abcdefg")]
     rows += [record("unit", rng.randint(1, 10**6), rng.choice(["ns", "us", "ms", "s"]))] if rng.random() < 0.5 else []
     rows += [record("rounds", rounds)]
     rows += weights(rng) if rng.random() < 0.5 else []
@@ -45,11 +46,11 @@ def recording(number):
         for part, openings in enumerate(all_openings):
             given, room[kind, part] = caps(rng, kind, openings, rounds)
             rows += [record("cap", kind, part, *row) for row in given]
-    return "".join(rows) + "".join(requests(rng, rounds, adapters, devices, room))
+    return "".join(rows) + "".join(requests(rng, rounds, adapters, devices, room, version))
 
 
-def requests(rng, rounds, adapters, devices, room):
-    """Rows of requests, each started in some round that has room for it."""
+def requests(rng, rounds, adapters, devices, room, version):
+    """Rows of requests, each started in some round that has room for it; in version 2 most have a completion."""
     for _ in range(rng.randint(0, 40)):
         device = rng.randrange(len(devices))
         adapter = devices[device][0]
@@ -64,4 +65,5 @@ def requests(rng, rounds, adapters, devices, room):
         arrival = rng.choice([1, sent, rng.randint(1, sent)])
         last = rng.choice(["", rounds, rng.randint(sent, rounds)])
         priority = rng.choice([rng.randrange(1280), 896, 1152])
-        yield record("request", rng.randrange(4), device, priority, arrival, last, sent)
+        done = [rng.choice(["", sent, sent + rng.randint(0, 9), sent + rng.randint(0, 60)])] if version == 2 else []
+        yield record("request", rng.randrange(4), device, priority, arrival, last, sent, *done)

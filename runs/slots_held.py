@@ -28,6 +28,7 @@ from dataclasses import replace
 import explanations
 import imported_model
 import imported_recording
+import pace_model
 import random_recordings
 import random_traces
 import slots_model
@@ -55,18 +56,11 @@ def same(what: str, given: object, due: object) -> None:
 
 
 def hold_reading(given: Made) -> Capture:
-    """The text is read as what it was made of; without slots the recording is that of the other model of `import`."""
+    """The text is read as what it was made of."""
     capture = given.capture()
     known = [request for request in capture.requests if request.arrival is not None]
     early = [request for request in capture.requests if request.arrival is None]
     same("requests", known + sorted(early, key=lambda request: request.start), given.attempts)
-    reader = imported_model.Blkparse(given.options)
-    for line in given.text.splitlines():
-        reader.take(line)
-    taken = [request for request in reader.finish() if request.started is not None]
-    if not given.rated:
-        due, _ = imported_recording.recording(reader, taken, given.span, (given.span, "ns"))
-        same("the recording without slots", Rounds(capture, given.span, with_slots=False).text((given.span, "ns"), 1), due)
     return capture
 
 
@@ -127,8 +121,8 @@ def hold_waits(text: str, unit: int) -> dict[str, int]:
     recording, slow = waits_model.planned(text), SlowRecording(text)
     rounds = range(1, recording.round + 1)
     due = {("dev", device): [slow.pace_cap(device, round) for round in rounds] for device in range(len(recording.devices))}
-    same("caps at the recorded pace", waits_model.pace_caps(recording), due)
-    at_pace = Recording(waits_model.pace_text(text))
+    same("caps at the recorded pace", pace_model.pace_caps(recording), due)
+    at_pace = Recording(pace_model.pace_text(text))
     for device in range(len(recording.devices)):
         same(f"device {device} at the recorded pace", [at_pace.cap("dev", device, round) for round in rounds], due["dev", device])
     costs = waits_model.costs(recording.stays)

@@ -187,11 +187,11 @@ def caps_of_device(sent: list[int], waits: list[bool], spare: list[int], rated: 
 class Rounds:
     """The requests that are taken, in rounds of so many ns. Round 1 begins when the first one arrives."""
 
-    def __init__(self, capture: Capture, span: int, with_slots: bool = True) -> None:
+    def __init__(self, capture: Capture, span: int) -> None:
         self.capture, self.span, self.taken = capture, span, capture.taken()
         self.begin = self.taken[0].arrival
         self.last = max(self.at(request.start) for request in self.taken)
-        self.devices = {name: device_of(capture, name, self.begin, span) for name in capture.devices} if with_slots else {}
+        self.devices = {name: device_of(capture, name, self.begin, span) for name in capture.devices}
 
     def at(self, time: int) -> int:
         return 1 + (time - self.begin) // self.span
@@ -206,12 +206,17 @@ class Rounds:
                 change[self.at(request.start)] -= 1
         return sent[1:], [number > 0 for number in itertools.accumulate(change)][1:self.last + 1]
 
+    def done(self, request: Request) -> int | str:
+        """The round in which a request was completed, or nothing, if that isn't known or is too late for a recording."""
+        done = None if request.completion is None else self.at(request.completion)
+        return "" if done is None or done > MAX_ROUND else done
+
     def resources(self) -> Resources:
         capture = self.capture
         caps, usual, loads = [], [], []
         for name in capture.devices:
             sent, waits = self.sent_and_waiting(name)
-            spare = self.devices[name].spare if name in self.devices else {}
+            spare = self.devices[name].spare
             own, openings = caps_of_device(sent, waits, [spare.get(round, 0) for round in range(1, self.last + 1)], capture.rated.get(name))
             caps, usual, loads = [*caps, own], [*usual, openings], [*loads, sent]
         given = {name: capture.hosts[name] for name in capture.devices if name in capture.hosts}
@@ -232,7 +237,7 @@ class Rounds:
     def text(self, unit: tuple[int, str], version: int | None = None) -> str:
         """The recording: of version 2 where a completion is known, or of the given one."""
         capture, resources = self.capture, self.resources()
-        version = version or (2 if any(request.completion is not None for request in self.taken) else 1)
+        version = version or (2 if any(self.done(request) for request in self.taken) else 1)
         rows = [(f"camrecord{version}", *"abcdefg"), ("unit", *unit), ("rounds", self.last)]
         rows += [("weight", *row) for row in imported_recording.WEIGHTS] + [("link", openings) for openings in capture.links]
         rows += [("sim", openings, capture.on_link.get(adapter, "")) for adapter, openings in enumerate(resources.adapter_openings)]
@@ -246,8 +251,7 @@ class Rounds:
             start = self.at(request.start)
             is_retried = request.put_back is not None and request.put_back < capture.end
             end = max(start, self.at(request.put_back) - 1) if is_retried else self.last
-            done = None if request.completion is None else self.at(request.completion)
-            done = done if version == 2 and done is not None and done <= MAX_ROUND else ""
+            done = self.done(request) if version == 2 else ""
             rows.append(("request", capture.drivers.index(request.driver), capture.devices.index(request.device), request.priority,
                          self.at(request.arrival), end if end < self.last else "", start, done))
         return imported_recording.spelled(rows)
@@ -261,15 +265,15 @@ def cap_rows(kind: str, caps: list[list[int]], openings: list[int]) -> list[tupl
 
 
 def capture_of(reader: imported_model.Reader, **more: dict) -> Capture:
-    """The capture that a reader has read."""
-    reader.finish()
+    """The capture that a finished reader has read."""
     options, is_blkparse = reader.options, isinstance(reader, imported_model.Blkparse)
     requests = [(request, request.device, request.arrival) for request in reader.found]
     requests += [(request, options.listed(request.device), None) for request in (reader.early_all if is_blkparse else [])]
     attempts = [Request(device, r.driver, r.priority, arrival, r.started, r.completed, r.put_back, is_blkparse and r.place is None)
                 for r, device, arrival in requests]
     hosts = {name: (adapter, openings) for name, adapter, openings in options.hosts}
-    return Capture(attempts, list(reader.devices), list(reader.drivers), options.begin, options.end, hosts, **more)
+    given = {"rated": dict(options.rated), "depths": dict(options.depths), **more}
+    return Capture(attempts, list(reader.devices), list(reader.drivers), options.begin, options.end, hosts, **given)
 
 
 def read_blkparse(text: str, options: imported_model.Options, **more: dict) -> Capture:
@@ -277,6 +281,7 @@ def read_blkparse(text: str, options: imported_model.Options, **more: dict) -> C
     for line in text.splitlines():
         reader.take(line)
     reader.end()
+    reader.finish()
     return capture_of(reader, **more)
 
 

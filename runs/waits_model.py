@@ -3,52 +3,25 @@ the three parts of the waiting, blame (of a trace too), latency and limits of la
 integers. Best costs are the program's (`program.py` says which one)."""
 from __future__ import annotations
 
-import collections
 import csv
 import io
-import subprocess
-import tempfile
 
 import explanations
 import imported_recording
-import model
-from program import program
+import pace_model
+from pace_model import best_rounds, pace_text
 
 # Above the number of every driver.
 NOBODY = 256
 
 
-class Recording(model.Recording):
-    """A recording of either version. A stay has the round `done` in which it was completed, or None; and `pace` and `best`, once it is
-    planned."""
-
-    def on_request(self, *fields: str) -> None:
-        super().on_request(*fields[:6])
-        self.stays[-1]["done"] = int(fields[6]) if fields[6] else None
-
-    def note(self, word: str) -> None:
-        if word == "request":
-            stay = self.stays[-1]
-            for part in self.parts(stay):
-                self.sent.setdefault((*part, stay["live"]), []).append(stay)
+class Recording(pace_model.Recording):
+    """A recording of either version. A stay has `pace` and `best`, once it is planned."""
 
     def __init__(self, text: str) -> None:
-        # The stays that a device, an adapter or a link sent in a round, and those that it had in service.
-        self.sent: dict[tuple[str, int, int], list[dict]] = {}
-        super().__init__(text)
-        self.version = int(self.header[0].removeprefix("camrecord"))
+        # The stays that a device, an adapter or a link had in service.
         self.in_service: dict[tuple[str, int, int], list[dict]] | None = None
-
-    def load(self, kind: str, number: int, round: int) -> int:
-        return len(self.sent.get((kind, number, round), []))
-
-    def full_at(self, stay: dict, round: int) -> tuple[str, int] | None:
-        """The resource that is the cause of a round that a stay waits, if one is: the first that takes nothing, or else the first that
-        is full."""
-        parts = self.parts(stay)
-        stopped = [part for part in parts if self.cap(*part, round) == 0]
-        full = [part for part in parts if self.load(*part, round) == self.cap(*part, round)]
-        return next(iter(stopped + full), None)
+        super().__init__(text)
 
     def serves(self, kind: str, number: int, round: int) -> list[dict]:
         """The stays that this device, adapter or link has in service in a round: sent before, and completed in it or later. Without a
@@ -62,7 +35,6 @@ class Recording(model.Recording):
                         if self.cap(*part, at) == 0:
                             self.in_service.setdefault((*part, at), []).append(stay)
         return self.in_service.get((kind, number, round), [])
-
 
     def others(self, stay: dict, round: int) -> list[dict]:
         """Those of which one was in the way of a stay that waits in a round: what the resource that is the cause sent, or else what it
@@ -85,58 +57,10 @@ class Trace(explanations.Trace):
         return explanations.sent_by(self, cause, numbers[cause], round) if cause in numbers else []
 
 
-def with_caps(text: str, caps: dict[tuple[str, int], list[int]], recording: Recording) -> str:
-    """The text with other caps of these resources, round by round from round 1 on."""
-    rows = list(csv.reader(io.StringIO(text)))
-    kept = [row for row in rows if row[0] == "cap" and (row[1], int(row[2])) not in caps]
-    for (kind, number), own in caps.items():
-        kept += [["cap", kind, number, *run] for run in imported_recording.caps(own, recording.openings(kind, number))]
-    kept.sort(key=lambda row: (("dev", "sim", "link").index(row[1]), int(row[2]), int(row[3])))
-    requests = [row for row in rows if row[0] == "request"]
-    return imported_recording.spelled([row for row in rows if row[0] not in ("cap", "request")] + kept + requests)
-
-
-def waiting_rounds(recording: Recording) -> set[tuple[int, int]]:
-    """The devices and rounds at which a request waits."""
-    return {(stay["device"], round) for stay in recording.stays for round in range(stay["arrival"], stay["live"])}
-
-
-def pace_caps(recording: Recording) -> dict[tuple[str, int], list[int]]:
-    """The caps of the devices at the recorded pace: where a request waits and no resource is full, what was sent there."""
-    caps = {("dev", device): [recording.cap("dev", device, round) for round in range(1, recording.round + 1)]
-            for device in range(len(recording.devices))}
-    for device, round in waiting_rounds(recording):
-        stay = {"device": device, "adapter": recording.devices[device]["adapter"]}
-        if recording.full_at(stay, round) is None:
-            caps["dev", device][round - 1] = recording.load("dev", device, round)
-    return caps
-
-
-def pace_text(text: str) -> str:
-    """The recording at the recorded pace."""
-    recording = Recording(text)
-    return with_caps(text, pace_caps(recording), recording)
-
-
 def version_1(text: str) -> str:
     """The recording without completions."""
     rows = list(csv.reader(io.StringIO(text)))
     return imported_recording.spelled([["camrecord1", *"abcdefg"]] + [row[:7] if row[0] == "request" else row for row in rows[1:]])
-
-
-def best_rounds(text: str, recording: Recording) -> list[int]:
-    """The round of each stay in the best schedule that the program prints. It has to see the same stays."""
-    with tempfile.NamedTemporaryFile("w", suffix=".csv") as file:
-        file.write(version_1(text))
-        file.flush()
-        done = subprocess.run([program, "audit", file.name], capture_output=True, text=True)
-    if done.returncode:
-        raise ValueError(f"audit ended with status {done.returncode}: {done.stderr}")
-    lines = [[int(number) for number in line.split()[1:]] for line in done.stdout.splitlines() if line.startswith("stay ")]
-    for stay, (number, _, arrival, live, _, weight) in zip(recording.stays, lines, strict=True):
-        if (stay["ccb"], stay["arrival"], stay["live"], stay["weight"]) != (number, arrival, live, weight):
-            raise ValueError(f"the report has another stay {number}")
-    return [best for *_, best, _ in lines]
 
 
 def planned(text: str) -> Recording:
@@ -160,11 +84,11 @@ def parts(recording: Recording, key: str) -> dict[int, list[dict]]:
 
 
 def blame(recording: Recording | Trace, key: str = "driver") -> list[dict]:
-    """What waiting cost by who waited and who was in the way, by driver or level, the greatest cost first. `by` is None where that is
-    nobody."""
+    """How long who waited for whom, by driver or level, the greatest cost first; `by` is None where nobody was in the way. Avoidable are
+    the rounds in which the best schedule at the recorded pace, or of a trace the best one, had sent the stay."""
     places = {id(stay): at for at, stay in enumerate(recording.stays)}
     blamed: dict[tuple[int, int], dict | None] = {}
-    table: collections.Counter[tuple[int, int | None]] = collections.Counter()
+    table: dict[tuple[int, int | None], dict[str, int]] = {}
     for stay in recording.stays:
         for round in range(stay["arrival"], stay["live"]):
             # All that wait at a device in a round name the same one: of the smallest weight the one that arrived last, then the last.
@@ -172,8 +96,11 @@ def blame(recording: Recording | Trace, key: str = "driver") -> list[dict]:
                 blamed[stay["device"], round] = min(recording.others(stay, round), default=None, key=lambda other: (
                     other["weight"], -other["arrival"], -places[id(other)]))
             other = blamed[stay["device"], round]
-            table[stay[key], None if other is None else other[key]] += stay["weight"]
-    rows = [{"waiting": waiting, "by": by, "cost": cost} for (waiting, by), cost in table.items()]
+            amounts = table.setdefault((stay[key], None if other is None else other[key]), {"waited": 0, "avoidable": 0, "cost": 0})
+            amounts["waited"] += 1
+            amounts["avoidable"] += round >= stay.get("pace", stay.get("best", stay["live"]))
+            amounts["cost"] += stay["weight"]
+    rows = [{"waiting": waiting, "by": by, **amounts} for (waiting, by), amounts in table.items()]
     return sorted(rows, key=lambda row: (-row["cost"], row["waiting"], NOBODY if row["by"] is None else row["by"]))
 
 

@@ -234,6 +234,9 @@ def never_limit(net):
     for parts in net.parts:
         for part, over in zip(parts, parts[1:]):
             above.setdefault(over, set()).add(part)
+    for number, (_, link) in enumerate(net.adapters):
+        if link is not None:
+            above.setdefault(("link", link), set()).add(("sim", number))
     return {over: parts for over, parts in sorted(above.items(), key=lambda row: net.resources.index(row[0]))
             if all(most >= together for most, together in zip(net.caps[over], together_below(net.caps, parts), strict=True))}
 

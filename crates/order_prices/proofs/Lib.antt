@@ -1,0 +1,7 @@
+pub mod LeastLemmas
+pub mod ClosedLemmas
+pub mod BestLemmas
+pub mod TakeLemmas
+pub mod FirstLemmas
+pub mod FillLemmas
+pub mod WorthLemmas

@@ -1,0 +1,3 @@
+pub mod ClosedPrices
+pub mod FirstWaiting
+pub mod Worth

@@ -1,0 +1,3 @@
+pub mod Orders
+pub mod Keys
+pub mod Room

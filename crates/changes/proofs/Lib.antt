@@ -1,0 +1,4 @@
+pub mod BelowLemmas
+pub mod CapLemmas
+pub mod WideLemmas
+pub mod TryLemmas

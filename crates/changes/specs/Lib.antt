@@ -1,0 +1,4 @@
+pub mod Changes
+pub mod Below
+pub mod Caps
+pub mod Tries

@@ -70,7 +70,7 @@ fn each_adapter_begins_before_the_other_is_planned(rt: HostRuntime) -> Result<()
 fn progress_names_the_one_adapter_that_has_a_stay(rt: HostRuntime) -> Result<(), Fail> {
     for (trace, reports, due) in [
         (FROZEN, [true, false], 2),
-        (SECOND_ADAPTER, [false, true], 0),
+        (SECOND_ADAPTER, [false, true], 2),
     ] {
         let net = net(rt.alloc(), trace)?;
         let progress = Meeting::new();

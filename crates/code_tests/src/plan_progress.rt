@@ -131,8 +131,10 @@ fn only_more_than_4096_stays_are_planned_by_levels(rt: HostRuntime) -> Result<()
     Ok(())
 }
 
+// Three adapters, on each of which the order by weight isn't best: the lighter of two requests has to go first, since its device is
+// stopped in the rounds after that.
 const THREE: &str =
-    "camrecord1,a,b,c,d,e,f,g\nrounds,1,,,,,,\nsim,1,,,,,,\nsim,1,,,,,,\nsim,1,,,,,,\ndev,0,0,0,1,,,\ndev,1,0,0,1,,,\ndev,2,0,0,1,,,\nrequest,0,0,128,1,,1,\nrequest,0,1,128,1,,1,\nrequest,0,2,128,1,,1,\n";
+    "camrecord1,a,b,c,d,e,f,g\nrounds,5,,,,,,\nsim,1,,,,,,\nsim,1,,,,,,\nsim,1,,,,,,\ndev,0,0,0,1,,,\ndev,0,1,0,1,,,\ndev,1,0,0,1,,,\ndev,1,1,0,1,,,\ndev,2,0,0,1,,,\ndev,2,1,0,1,,,\ncap,dev,1,2,4,0,,\ncap,dev,3,2,4,0,,\ncap,dev,5,2,4,0,,\nrequest,0,0,896,1,,1,\nrequest,0,1,1152,1,,5,\nrequest,0,2,896,1,,1,\nrequest,0,3,1152,1,,5,\nrequest,0,4,896,1,,1,\nrequest,0,5,1152,1,,5,\n";
 
 #[test]
 fn progress_names_each_of_three_adapters(rt: HostRuntime) -> Result<(), Fail> {

@@ -12,9 +12,9 @@ pub(crate) const FROZEN: &str =
 pub(crate) const TWO_ADAPTERS: &str =
     "camtrace1,a,b,c,d,e,f,g\nsim,1,,,,,,\nsim,1,,,,,,\ndev,0,1,0,1,,,\ndev,0,2,0,1,,,\ndev,1,1,0,1,,,\nlane,0,,,,,,\nlane,1,,,,,,\nsubmit,0,0,896,4,none,,\nsubmit,0,1,1152,4,none,,\nsubmit,0,2,1152,4,none,,\nsend,0,0,,,,,\ndone,0,01,00,,,,\nsend,1,2,,,,,\ndone,2,01,00,,,,\nsubmit,0,2,128,4,none,,\ntick,,,,,,,\nfreeze,1,1,,,,,\nsend,1,3,,,,,\ndone,3,01,00,,,,\ntick,,,,,,,\ntick,,,,,,,\ntick,,,,,,,\nrelease,1,1,,,,,\nsend,0,1,,,,,\ndone,1,01,00,,,,\n";
 
-/// Two adapters, of which the second alone has a command.
+/// Two adapters, of which the second alone has commands: those of the first trace.
 pub(crate) const SECOND_ADAPTER: &str =
-    "camtrace1,a,b,c,d,e,f,g\nsim,1,,,,,,\nsim,1,,,,,,\ndev,0,1,0,1,,,\ndev,1,1,0,1,,,\nlane,0,,,,,,\nlane,1,,,,,,\nsubmit,0,1,1152,4,none,,\nsend,1,0,,,,,\ndone,0,01,00,,,,\n";
+    "camtrace1,a,b,c,d,e,f,g\nsim,1,,,,,,\nsim,1,,,,,,\ndev,0,1,0,1,,,\ndev,1,1,0,1,,,\ndev,1,2,0,1,,,\nlane,0,,,,,,\nlane,1,,,,,,\nsubmit,0,1,896,4,none,,\nsubmit,0,2,1152,4,none,,\nsend,1,0,,,,,\ndone,0,01,00,,,,\ntick,,,,,,,\nfreeze,2,1,,,,,\ntick,,,,,,,\ntick,,,,,,,\ntick,,,,,,,\nrelease,2,1,,,,,\nsend,1,1,,,,,\ndone,1,01,00,,,,\n";
 
 /// A report on the trace with two devices.
 pub(crate) const REPORT: &str =

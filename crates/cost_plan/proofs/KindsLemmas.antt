@@ -5,7 +5,7 @@ use Rattle.std.specs.List.{range_with_len}
 use Rattle.std.proofs.lemmas.List.{get_or-take, get_or-drop}
 use Rattle.std.proofs.lemmas.List.Sums.{sum_by-append, sum_by-cons}
 use Rattle.std.proofs.lemmas.List.Sorted.{sum_by-IsPermutation}
-use Rattle.cost_plan.specs.Words.{Instance, IsAdmissible}
+use Rattle.cost_plan.specs.Words.{Instance}
 use Rattle.cost_plan.specs.InTurn.{AreAlike, ComesBefore, CouldChange, is_of, AreSpared, TakesTurns}
 use Rattle.cost_plan.specs.TurnOrder.{turn_of, IsUpTo, IsTurnOrder, IsKind, IsKindSpared, IsKindTurned, AreTurned}
 use Rattle.cost_plan.proofs.OrderLemmas.{order_long, order_within, order_once, order_place}

@@ -2,7 +2,6 @@ pub mod ChangeLemmas
 pub mod CellLemmas
 pub mod BalanceLemmas
 pub mod CycleChangeLemmas
-pub mod LeastLemmas
 pub mod PriceLemmas
 pub mod RaisingLemmas
 pub mod LoadLemmas

@@ -1,10 +1,10 @@
 -- What one stay more or less in a round does to the loads of cells.
-use Rattle.std.proofs.Common.{◌≡◌, ◌≢◌, ℕ, zero, suc, ◌+◌, ◌-◌, ◌*◌, ◌<◌, ◌≤◌, ◌==◌, ◌&&◌, ◌||◌, Bool, cond, List, length, get_or, set, refl, sym, ap, ◌∙◌, inl, inr, arith, length-set, get_or-set_same, get_or-set_other}
+use Rattle.std.proofs.Common.{◌≡◌, ◌≢◌, ℕ, zero, suc, ◌+◌, ◌-◌, ◌<◌, ◌≤◌, ◌==◌, ◌&&◌, ◌||◌, Bool, cond, List, length, get_or, set, refl, sym, ap, ◌∙◌, inl, inr, arith, length-set, get_or-set_same, get_or-set_other}
 use Rattle.std.proofs.lemmas.Bool.{cases_eq, eq-eqb, ne_eqb, and_from, and_left, and_right, or_left}
 use Rattle.cost_plan.specs.Words.{Instance, rows, uses, IsAdmissible, load, IsSound}
 use Rattle.cost_plan.specs.Cells.{cell, resource_above, covers, stands, part_load, rounds_of}
-use Rattle.cost_plan.specs.WorkingSchedule.{AreLoads, IsWorkingSchedule, KeepWindows, KeepResources}
-use Rattle.round_net.proofs.SumLemmas.{sum_below-same, sum_below-more, sum_below-set}
+use Rattle.cost_plan.specs.WorkingSchedule.{IsWorkingSchedule, KeepWindows, KeepResources}
+use Rattle.round_net.proofs.SumLemmas.{sum_below-same, sum_below-set}
 use Rattle.cost_plan.proofs.BalanceLemmas.{at_most_one}
 use Rattle.cost_plan.proofs.CellLemmas.{cell-apart, resource_above-past, covers-uses, covers-past, covers-above, covers-self}
 

@@ -1,8 +1,7 @@
 -- Raising potentials ends.
-use Rattle.std.proofs.Common.{◌≡◌, ℕ, zero, suc, ◌+◌, ◌-◌, ◌/◌, ◌<◌, ◌≤◌, List, [], ◌∷◌, length, get_or, replicate, Option, Some, None, sym, ap, ◌∙◌, inl, inr, arith, All, sum_by}
+use Rattle.std.proofs.Common.{◌≡◌, ℕ, zero, suc, ◌+◌, ◌-◌, ◌/◌, ◌<◌, ◌≤◌, List, [], ◌∷◌, length, get_or, Option, Some, ap, inl, inr, arith, All, sum_by}
 use Rattle.std.proofs.lemmas.List.Sums.{sum_by-cons}
-use Rattle.cost_plan.specs.Words.{Arc, came_by, AllCameBy, PotentialTable, potential_of, limit, Instance}
-use Rattle.negative_cycle.proofs.ForestLemmas.{came_by-none}
+use Rattle.cost_plan.specs.Words.{Arc, AllCameBy, PotentialTable, potential_of, limit, Instance}
 use Rattle.cost_plan.specs.Residual.{IsResidual}
 use Rattle.cost_plan.specs.Raising.{Raises, AllResidual}
 

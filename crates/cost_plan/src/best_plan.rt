@@ -13,6 +13,7 @@ ghost use Rattle.cost_plan.specs.Ties.{KeepsLive};
 ghost use Rattle.cost_plan.specs.InTurn.{TakesTurns};
 
 use crate::begin::{Start, begin, guessed, live};
+use crate::by_weight::plan_by_weight;
 use crate::cells::nodes;
 use crate::keep_live::keep_live;
 use crate::levels::plan_by_levels;
@@ -44,8 +45,9 @@ pub struct BestPlan {
 /// best one, it is the plan's. In any other, stays of one device and one weight are sent in the order in which they were sent
 /// live, as far as their windows allow them to change rounds; only where there are more than 4,096 of them, and the window of
 /// one ends before the last round, may they be sent in another. Which of several such plans it is isn't promised. It begins
-/// with a guess, and as long as some stays can change rounds together so that all cost less, it changes them. For a net of
-/// more than 4,096 stays a plan by levels of time is tried first.
+/// with the order by weight, which is the plan if prices in closed form prove it. Else, for a net of more than 4,096 stays, a plan by
+/// levels of time is tried. Then it makes a guess by shortest paths, and as long as some stays can change rounds together so that all
+/// cost less, it changes them.
 pub fn plan(alloc: Global, net: &Net) -> Result<BestPlan, AllocError>
     ensures proved { IfOk result (λ best. ProvesBest (instance_of_rows net.now) (slice_index best.schedule) (pricing_of_rows best.prices)) }
     ensures stays { IfOk result (λ best. length best.schedule ≡ (instance_of_rows net.now).stays) }
@@ -54,7 +56,7 @@ pub fn plan(alloc: Global, net: &Net) -> Result<BestPlan, AllocError>
     ensures live { IfOk result (λ best. KeepsLive (instance_of_rows net.now) (live_of_rows net.now) (slice_index best.schedule)) }
     ensures turns { IfOk result (λ best. TakesTurns (instance_of_rows net.now) (live_of_rows net.now) (slice_index best.schedule)) }
 {
-    let best = match plan_of_many(alloc, net, &NoPlanProgress)? {
+    let best = match proved_guess(alloc, net, &NoPlanProgress)? {
         Some(best) => best,
         None => settled(alloc, net, begin(alloc, net)?)?,
     };
@@ -62,11 +64,11 @@ pub fn plan(alloc: Global, net: &Net) -> Result<BestPlan, AllocError>
     keep_live(alloc, net, in_turn)
 }
 
-/// A best plan of the net, as `plan` makes it. But the guess is made for each part that has a stay by itself, and for all of
-/// them at once: for one by the caller's thread, and for each other one by a thread of its own. A part is all adapters on one
+/// A best plan of the net, as `plan` makes it. But the guess by shortest paths is made for each part that has a stay by itself, and
+/// for all of them at once: for one by the caller's thread, and for each other one by a thread of its own. A part is all adapters on one
 /// link, or an adapter on no link. The thread that begins a part passes its least adapter to `progress` first. Where no thread can be
-/// started, the one that would have started it makes the part. A plan by levels of time, which `plan` tries first for a net of
-/// more than 4,096 stays, is made by the caller's thread, which passes each level to `progress`.
+/// started, the one that would have started it makes the part. The order by weight and a plan by levels of time, which are tried
+/// before, are made by the caller's thread, which passes each level to `progress`.
 pub fn plan_with<G: PlanProgress + Sync, R: Threads + Sync>(
     rt: &R,
     alloc: Global,
@@ -80,7 +82,7 @@ pub fn plan_with<G: PlanProgress + Sync, R: Threads + Sync>(
     ensures live { IfOk result (λ best. KeepsLive (instance_of_rows net.now) (live_of_rows net.now) (slice_index best.schedule)) }
     ensures turns { IfOk result (λ best. TakesTurns (instance_of_rows net.now) (live_of_rows net.now) (slice_index best.schedule)) }
 {
-    let best = match plan_of_many(alloc, net, progress)? {
+    let best = match proved_guess(alloc, net, progress)? {
         Some(best) => best,
         None => match guessed_at_once(rt, alloc, net, progress)? {
             Some(start) => settled(alloc, net, start)?,
@@ -91,8 +93,8 @@ pub fn plan_with<G: PlanProgress + Sync, R: Threads + Sync>(
     keep_live(alloc, net, in_turn)
 }
 
-// The plan by levels of a net of many stays. None of few, or if its prices don't prove it best.
-fn plan_of_many<G: PlanProgress>(
+// A guess whose prices prove it best, if there is one: the order by weight, or for a net of many stays a plan by levels.
+fn proved_guess<G: PlanProgress>(
     alloc: Global,
     net: &Net,
     progress: &G,
@@ -102,6 +104,9 @@ fn plan_of_many<G: PlanProgress>(
     ensures cells { IfOk result (λ found. IfSome found (λ best. IsPricingFor (instance_of_rows net.now) best.prices)) }
     ensures small { IfOk result (λ found. IfSome found (λ best. IsAtMost (instance_of_rows net.now) (pricing_of_rows best.prices) (instance_of_rows net.now).max_price)) }
 {
+    if let Some(best) = plan_by_weight(alloc, net)? {
+        return Ok(Some(best));
+    }
     if net.stays() <= FEW_STAYS {
         return Ok(None);
     }
@@ -127,7 +132,7 @@ fn settled(alloc: Global, net: &Net, begun: Start) -> Result<BestPlan, AllocErro
     best_of(alloc, net, &start)
 }
 
-/// The guess with which `plan` begins, if its potentials settle all that can be changed in it. `plan` then changes nothing. That
+/// The guess by shortest paths, if its potentials settle all that can be changed in it. `plan` then changes nothing of it. That
 /// there is such a guess isn't promised.
 pub fn guessed_plan(alloc: Global, net: &Net) -> Result<Option<BestPlan>, AllocError>
     ensures proved { IfOk result (λ found. IfSome found (λ best. ProvesBest (instance_of_rows net.now) (slice_index best.schedule) (pricing_of_rows best.prices))) }
@@ -141,7 +146,7 @@ pub fn guessed_plan(alloc: Global, net: &Net) -> Result<Option<BestPlan>, AllocE
     }
 }
 
-/// The same of the guess with which `plan_with` begins.
+/// The same of the guess by shortest paths that `plan_with` makes.
 pub fn guessed_plan_with<G: PlanProgress + Sync, R: Threads + Sync>(
     rt: &R,
     alloc: Global,

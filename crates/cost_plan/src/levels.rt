@@ -6,9 +6,9 @@ ghost use Rattle.cost_plan.specs.Words.{rows, instance_of_rows, ProvesBest, pric
 ghost use Rattle.cost_plan.specs.ResourcePrices.{IsAtMost};
 
 use crate::best_plan::BestPlan;
+use crate::by_weight::checked_plan;
 use crate::plan_progress::PlanProgress;
 use cam_types::MAX_WEIGHT;
-use price_check::{Verdict, check};
 use round_net::{Net, Prices, Schedule};
 use std::alloc::{AllocError, Global};
 use time_levels::{Arrival, Done, Network, Progress, Row};
@@ -63,11 +63,7 @@ fn checked(
 {
     let schedule = Schedule::new(alloc, rounds)?;
     let prices = prices_of(alloc, net, worth)?;
-    let mut counts = vec![in alloc; 0; prices.cells()]?;
-    match check(net, &schedule, &prices, &mut counts) {
-        Verdict::Proved => Ok(Some(BestPlan { schedule, prices })),
-        _ => Ok(None),
-    }
+    checked_plan(alloc, net, schedule, prices)
 }
 
 // The prices of a list that has all rounds of one resource after all rounds of another; none above the net's largest.

@@ -1,5 +1,6 @@
-//! A schedule of least cost for a net, with prices that prove it: a minimum cost flow. A guess by successive shortest paths or by
-//! levels of time is improved by cancelling negative cycles (Klein 1967), and the potentials give the prices (linear duality).
+//! A schedule of least cost for a net, with prices that prove it: a minimum cost flow. The order by weight is the first
+//! guess; if its prices don't prove it, a guess by levels of time or by successive shortest paths follows, which is improved by cancelling
+//! negative cycles (Klein 1967), whose potentials give the prices (linear duality).
 #![tactic(auto)]
 
 pub use best_plan::{BestPlan, guessed_plan, guessed_plan_with, plan, plan_with};
@@ -9,6 +10,7 @@ pub use time_levels::Done;
 mod arcs;
 mod begin;
 mod best_plan;
+mod by_weight;
 mod cells;
 mod keep_live;
 mod keeping;

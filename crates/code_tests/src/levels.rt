@@ -1,7 +1,8 @@
-//! Plans of made networks. A plan is best if it sends all, keeps the caps, and costs as much as its prices are worth: no plan
-//! costs less than prices are worth.
+//! Plans of made networks, by levels and by repair. A plan is best if it sends all, keeps the caps, and costs as much as its prices
+//! are worth: no plan costs less than prices are worth.
 
 mod generated;
+mod repaired;
 mod verdict;
 
 use generated::{Kind, Shape, network};
@@ -112,6 +113,8 @@ fn small_plans_are_best(rt: HostRuntime) -> Result<(), Fail> {
             let shape = Shape { seed, ..shape };
             let verdict = verdict_of(rt.alloc(), shape)?;
             assert!(rt; is_best(verdict), "{shape:?}: {verdict:?}");
+            let verdict = repaired::verdict_of(rt.alloc(), shape)?;
+            assert!(rt; is_best(verdict), "by repair: {shape:?}: {verdict:?}");
         }
     }
     Ok(())
@@ -136,6 +139,8 @@ fn larger_plans_are_best(rt: HostRuntime) -> Result<(), Fail> {
             };
             let verdict = verdict_of(rt.alloc(), shape)?;
             assert!(rt; is_best(verdict), "{shape:?}: {verdict:?}");
+            let verdict = repaired::verdict_of(rt.alloc(), shape)?;
+            assert!(rt; is_best(verdict), "by repair: {shape:?}: {verdict:?}");
         }
     }
     Ok(())

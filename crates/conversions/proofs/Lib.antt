@@ -2,6 +2,7 @@ pub mod PartLemmas
 pub mod CapLemmas
 pub mod StayLemmas
 pub mod RequestLemmas
+pub mod RescheduleLemmas
 pub mod NetLemmas
 pub mod SameNetLemmas
 pub mod ArrivalLemmas

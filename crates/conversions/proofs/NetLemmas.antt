@@ -1,6 +1,5 @@
 -- what the net of a history says of its rows
-use Rattle.std.proofs.Common.{◌≡◌, ℕ, ◌<◌, ◌≤◌, List, refl, ◌∙◌, Option, Some, None, Result, Ok, Err}
-use Rattle.std.specs.Prelude.{MatchOption, IsOkUnless}
+use Rattle.std.proofs.Common.{◌≡◌, ℕ, ◌<◌, ◌≤◌, List, refl, ◌∙◌, None}
 use Rattle.std.proofs.lemmas.List.{length-map}
 use Rattle.cam_types.specs.Topology.{Topology, IsConfig, IsPartial, config_fault}
 use Rattle.cam_types.specs.declared.adapter.Adapter.{Adapter}
@@ -9,13 +8,10 @@ use Rattle.cam_types.proofs.ConfigLemmas.{weight_items, reaches, link_items, som
 use Rattle.cam_types.proofs.TopologyLemmas.{config_fault-partial}
 use Rattle.event_rules.specs.Counts.{round}
 use Rattle.event_rules.specs.declared.event.Event.{Event}
-use Rattle.event_rules.specs.declared.stay.Stay.{Stay}
 use Rattle.round_net.specs.Instance.{rows}
 use Rattle.round_net.specs.Rows.{instance_of_rows}
 use Rattle.round_net.specs.Caps.{resource_count, cap}
 use Rattle.round_net.specs.Nets.{net_of, instance_of}
-use Rattle.round_net.specs.declared.net_fault.NetFault.{NetFault}
-use Rattle.round_net.specs.declared.net_fault.NetFault.TheVariants.{Unsent, OutOfMemory}
 use Rattle.round_net.proofs.TableLemmas.{cell-table}
 use Rattle.conversions.specs.Recorded.{without_lanes}
 

@@ -7,3 +7,4 @@ pub mod Faults
 pub mod Scripted
 pub mod RecordingScript
 pub mod Laws
+pub mod Rescheduled

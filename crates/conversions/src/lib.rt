@@ -9,6 +9,7 @@ pub use laws::{
 };
 pub use recording::recording_of;
 pub use recording_script::script_of_recording;
+pub use rescheduling::rescheduled;
 
 mod answers;
 mod arrival;
@@ -25,6 +26,7 @@ mod parts;
 mod recording;
 mod recording_script;
 mod requested;
+mod rescheduling;
 mod resource_caps;
 mod runs;
 mod stay_requests;

@@ -5,6 +5,7 @@ pub use check::check_json;
 pub use compare::compare_json;
 pub(crate) use counts::Counts;
 pub use explain::explain_json;
+pub use improvements::what_if_json;
 pub use prove::prove_json;
 pub use sweep_object::sweep_json;
 
@@ -16,6 +17,7 @@ mod compare;
 mod counts;
 mod explain;
 mod freezes;
+mod improvements;
 mod limits;
 mod line;
 mod members;

@@ -2,9 +2,12 @@
 //! side, the table of a sweep, objects of JSON, and what helps to find a fault.
 #![tactic(auto)]
 
-pub use as_json::{audit_json, check_json, compare_json, explain_json, prove_json, sweep_json};
+pub use as_json::{
+    audit_json, check_json, compare_json, explain_json, prove_json, sweep_json, what_if_json,
+};
 pub use compare::compare_page;
 pub use compared::Compared;
+pub use improvements::{WhatIfRow, WhatIfTable, what_if_page};
 pub use limited::Limited;
 pub use notes::{recording_note, report_note, shown_lines, shown_name, trace_note, unsent_note};
 pub use swept::{Swept, sweep_page};
@@ -15,6 +18,7 @@ mod as_json;
 mod behind;
 mod compare;
 mod compared;
+mod improvements;
 mod limited;
 mod notes;
 mod pair;

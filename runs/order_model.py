@@ -281,9 +281,16 @@ class Row(NamedTuple):
 
 
 def row(net, changes, best_of):
-    """The row of these changes. `best_of` answers the best cost of a net."""
-    wide = changed(net, changes)
+    """The row of these changes, with what never limited carried along. `best_of` answers the best cost of a net."""
+    wide = carried(net, changed(net, changes))
     return Row(tuple(changes), *(ordered(wide, order).cost for order in ORDERS), best_of(wide))
+
+
+def unchanged(net, best_of):
+    """The rows without a change: of the net as it was, at the recorded pace, and of the net itself if that is another one. A trace
+    has no pace of its own."""
+    pace = at_pace(net) if net.kind == "recording" else net
+    return [row(it, (), best_of) for it in ([net] if pace.caps == net.caps else [pace, net])]
 
 
 def saving(net, best_of, top=10):

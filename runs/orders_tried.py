@@ -228,11 +228,11 @@ def try_all():
         print(f"{part} of {NETS} nets and {TRACES} traces alike: " + ", ".join(f"{int(count)} {what}" for what, count in counts.items()))
 
 
-def in_words(net, row):
-    """A row of the table."""
+def in_words(net, row, words=""):
+    """A row of the table, in these words if there is no change."""
     changes = ", ".join(f"{net.names.get(change.part, ' '.join(map(str, change.part)))}: {change.word}" for change in row.changes)
     costs = "".join(f"{'-' if cost is None else format(cost, ','):>16}" for cost in row[1:])
-    return f"  {changes or 'as it was':<34}{costs}"
+    return f"  {changes or words:<34}{costs}"
 
 
 def print_orders(net, text, program):
@@ -267,15 +267,17 @@ def figures(name, program):
     print(f"{name}: {len(net.stays)} stays in {net.rounds} rounds; recorded {live:,}, best {best:,}{pace}")
     print_orders(net, text, program)
     print(f"  {'':<34}{'first come':>16}{'by weight':>16}{'best':>16}")
-    print(in_words(net, order_model.row(net, (), best_of)))
-    for row in order_model.saving(net, best_of):
+    for words, row in zip(("as it was", "no idle slots"), order_model.unchanged(net, best_of)):
+        print(in_words(net, row, words))
+    rows = order_model.saving(net, best_of)
+    for row in rows:
         print(in_words(net, row))
+    if len(rows) > 1:
+        all_of_these = order_model.row(net, [change for row in rows for change in row.changes], best_of)
+        print(in_words(net, all_of_these._replace(changes=()), "all of these"))
     never = ", ".join(f"{kind} {number}" for kind, number in order_model.never_limit(net))
     if never:
-        print(f"  these never limit, and where they are widened along: {never}")
-        for change in order_model.tried(net):
-            along = order_model.carried(net, order_model.changed(net, [change]))
-            print(in_words(net, order_model.row(along, (), best_of)._replace(changes=(change,))))
+        print(f"  these never limit, and are widened along: {never}")
     print(f"  {time.monotonic() - start:.1f} s")
 
 

@@ -122,11 +122,10 @@ def tried(net):
 
 
 def below(net, part):
-    """The devices of an adapter; of a link the adapters on it that have devices."""
+    """The devices of an adapter; of a link the adapters on it, also those without devices."""
     if part[0] == "sim":
         return [("dev", number) for number, device in enumerate(net.devices) if device["adapter"] == part[1]]
-    used = {device["adapter"] for device in net.devices}
-    return [("sim", number) for number, (_, link) in enumerate(net.adapters) if link == part[1] and number in used]
+    return [("sim", number) for number, (_, link) in enumerate(net.adapters) if link == part[1]]
 
 
 def never_limit(net):

@@ -5,7 +5,7 @@ A text is one of three:
   "..."                             itself, with texts that it names: ${NAME} stands for that text, ${NAME*3} for it three times,
                                     and ${examples/NAME} for a file of the repository
   { text = "...", replace = [...] } a text with pairs of an old and a new text; each old one is in it exactly once
-  { json = "..." }                  a value as the program prints it, on one line without spaces
+  { json = "..." }                  a value as the program prints it, on one line without spaces; it may name texts too
 """
 import json
 import os
@@ -31,7 +31,7 @@ def made(value, named):
     if isinstance(value, str):
         return NAMED.sub(lambda found: text_named(found[1], named) * int(found[2] or 1), value)
     if set(value) == {"json"}:
-        return json.dumps(json.loads(value["json"]), separators=(",", ":"), ensure_ascii=False) + "\n"
+        return json.dumps(json.loads(made(value["json"], named)), separators=(",", ":"), ensure_ascii=False) + "\n"
     if set(value) != {"text", "replace"}:
         raise BadText(f"a text has no parts {', '.join(value)}")
     text = made(value["text"], named)

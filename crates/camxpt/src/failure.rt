@@ -1,10 +1,11 @@
 //! Why the program failed, and the exit status that says so.
 
+use crate::change_option::ChangeOption;
 use crate::source::Argument;
 use crate::words::Number;
 use audit_report::AuditFault;
 use conversions::ScriptFault;
-use recording_file::RecordingFault;
+use recording_file::{RecordingFault, RequestError};
 use report_text::ReportFault;
 use sim_worker::LiveFault;
 use std::alloc::AllocError;
@@ -44,6 +45,18 @@ pub enum Failure {
     /// It doesn't say when requests were completed.
     #[error("--slo: the recording doesn't say when requests were completed")]
     NoCompletions,
+    /// The word at this place among those of this option isn't of its form.
+    #[error("{}", .0.form())]
+    NoChange(ChangeOption, usize),
+    /// The word at this place among them names what isn't there.
+    #[error("no {} has this name or number", .0.what())]
+    NoSuchResource(ChangeOption, usize),
+    /// By an order so many requests aren't sent within the rounds, and so many within them but after their last one.
+    #[error("{0} not sent within the rounds, {1} after their last one")]
+    NotInTime(u32, u32),
+    /// A request that can't be started in another round.
+    #[error("{0}")]
+    Request(#[from] RequestError),
     /// A sweep by no seed, of more runs than there may be, or without memory for it.
     #[error("{0}")]
     Sweep(#[from] PlanFault),
@@ -75,11 +88,13 @@ impl Failure {
         ExitCode::from(match self {
             Failure::WordNotUtf8 | Failure::StandardInputTwice(_, _) | Failure::NoShell => 2,
             Failure::NoRange | Failure::NoSuchRounds(_) | Failure::NoNumber(_) => 2,
-            Failure::NoLimit(_) => 2,
+            Failure::NoLimit(_) | Failure::NoChange(_, _) | Failure::NoSuchResource(_, _) => 2,
             Failure::NoSuchDriver(_) | Failure::NoTimes | Failure::NoCompletions => 3,
+            Failure::NotInTime(_, _) | Failure::Request(RequestError::Illegal(_)) => 3,
             Failure::CannotOpen(_, _) | Failure::CannotWrite(_) => 4,
             Failure::Sweep(PlanFault::OutOfMemory)
             | Failure::Load(ScriptFault::OutOfMemory)
+            | Failure::Request(RequestError::OutOfMemory)
             | Failure::Live(LiveFault::OutOfMemory) => 5,
             Failure::Sweep(_) => 2,
             Failure::Load(_) => 3,

@@ -4,6 +4,10 @@
 use std::io::IsTerminal;
 use std::process::ExitCode;
 
+mod change_lists;
+mod change_option;
+mod change_texts;
+mod change_words;
 mod compare_run;
 mod completion;
 mod failure;
@@ -23,6 +27,7 @@ mod output;
 mod program;
 mod progress;
 mod proof_run;
+mod schedule_run;
 mod script_run;
 mod shell;
 mod source;
@@ -31,6 +36,7 @@ mod sweep_run;
 mod sweep_words;
 mod trace_run;
 mod view;
+mod what_if_run;
 mod word;
 mod words;
 

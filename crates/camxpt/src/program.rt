@@ -1,5 +1,6 @@
 //! Runs the subcommand that the command line asks for.
 
+use crate::change_words::{AskedRow, asked_rows};
 use crate::compare_run::compare;
 use crate::completion::script;
 use crate::failure::Failure;
@@ -9,6 +10,7 @@ use crate::note::{STANDARD_OUTPUT, capture_note, note_on, reason_note, tell, tel
 use crate::output::{Output, print, standard_output};
 use crate::progress::ProgressLine;
 use crate::proof_run::prove;
+use crate::schedule_run::NewOrder;
 use crate::script_run::ScriptRun;
 use crate::shell::Shell;
 use crate::source::{Argument, Both, Source, asks_more, input, is_verbose, open, open_both};
@@ -16,6 +18,7 @@ use crate::subcommands::command;
 use crate::sweep_run::sweep_script;
 use crate::trace_run::TraceRun;
 use crate::view::{View, range_of};
+use crate::what_if_run::WhatIfRun;
 use crate::words::{check_numbers, word_at, words};
 use audit_report::AuditFault;
 use clap::ArgMatches;
@@ -29,7 +32,7 @@ use std::sync::Wait;
 use std::thread::Threads;
 use views::shown_lines;
 
-/// How many stays and freezes are listed where no number is given.
+/// How many stays, freezes or changes are listed where no number is given.
 const TOP: usize = 10;
 
 /// How many waits of a stay are listed where not all are asked for.
@@ -139,6 +142,15 @@ fn obey<R: Runtime + AllocGlobal + Threads + Wait + Sync>(
             tell_of(rt, word_at(words, "slo", place), &failure);
             return Ok(failure.exit_code());
         }
+        Failure::NoChange(option, place) | Failure::NoSuchResource(option, place) => {
+            let word = word_at(words, option.id(), place);
+            tell_of(
+                rt,
+                &format!(in rt.alloc(); "--{} {word}", option.id())?,
+                &failure,
+            );
+            return Ok(failure.exit_code());
+        }
         Failure::CannotOpen(argument, error) => (argument.file_name(words), error),
         Failure::CannotWrite(error) => (STANDARD_OUTPUT, error),
         _ => return Err(failure),
@@ -160,7 +172,12 @@ fn obey_words<R: Runtime + AllocGlobal + Threads + Wait + Sync>(
         None
     };
     let limits = limits_of(rt.alloc(), words)?;
-    if let Some(run) = trace_run(name, words, rounds, &limits) {
+    let rows = if name == "whatif" {
+        asked_rows(rt.alloc(), words)?
+    } else {
+        Vec::new(rt.alloc())
+    };
+    if let Some(run) = trace_run(name, words, rounds, &limits, &rows) {
         let trace = open(rt, words, Argument::Trace)?;
         return over_trace(rt, trace, run, on_terminal);
     }
@@ -179,16 +196,18 @@ fn obey_words<R: Runtime + AllocGlobal + Threads + Wait + Sync>(
     }
 }
 
-// What the subcommand of this name does with a trace, if it takes one. It draws these rounds, if they are asked for, and counts by
-// these limits.
+// What the subcommand of this name does with a trace, if it takes one. It draws these rounds, if they are asked for, counts by
+// these limits, and tries the changes of these rows.
 fn trace_run<'a>(
     name: &str,
     words: &ArgMatches<'_>,
     rounds: Option<(u32, u32)>,
     limits: &'a [Limit<'a>],
+    rows: &'a [AskedRow<'a>],
 ) -> Option<TraceRun<'a>> {
     let as_json = words.get_flag("json");
     let summary = words.get_flag("summary");
+    let top = words.get_one("top").unwrap_or(TOP);
     let waits = if words.get_flag("all-waits") {
         usize::MAX
     } else {
@@ -206,12 +225,14 @@ fn trace_run<'a>(
         }),
         "explain" => TraceRun::Explain(View::Page {
             limits,
-            top: words.get_one("top").unwrap_or(TOP),
+            top,
             has_times: !words.get_flag("rounds"),
             has_blame: words.get_flag("blame"),
         }),
         "draw" => TraceRun::Explain(View::Drawing { rounds }),
         "timeline" => TraceRun::Explain(View::Timeline { waits }),
+        "whatif" => TraceRun::WhatIf(WhatIfRun { rows, top, as_json }),
+        "schedule" => { TraceRun::Schedule(NewOrder::named(words.get_str("order").unwrap_or(""))) }
         "migrate" => TraceRun::Migrate,
         "record" => TraceRun::Record,
         "script" => TraceRun::Script,
@@ -245,7 +266,7 @@ fn over_trace<R: Runtime + AllocGlobal + Threads + Sync, D: Read + Drop>(
     line.clear();
     match done {
         Ok(()) => Ok(ExitCode::SUCCESS),
-        Err(failure @ Failure::NoSuchDriver(_)) => Err(failure),
+        Err(failure @ (Failure::NoSuchDriver(_) | Failure::NoSuchResource(_, _))) => Err(failure),
         Err(failure) => Ok(tell_on(rt, &failure, &trace, &out)),
     }
 }

@@ -171,6 +171,32 @@ impl<W: Write, R: Clock + Eprint> Write for CountedWriter<'_, '_, W, R> {
     }
 }
 
+/// The line of a table of changes, which says how many rows are made.
+#[derive(Drop)]
+pub struct CountedRows<'a, 'b, R> {
+    line: &'a ProgressLine<'b, R>,
+    rows: usize,
+    made: AtomicU64,
+}
+
+impl<'a, 'b, R> CountedRows<'a, 'b, R> {
+    /// The line of so many rows, of which none is made.
+    pub fn new(line: &'a ProgressLine<'b, R>, rows: usize) -> CountedRows<'a, 'b, R> {
+        CountedRows {
+            line,
+            rows,
+            made: AtomicU64::new(0),
+        }
+    }
+}
+
+impl<R: Clock + Eprint> what_if::Progress for CountedRows<'_, '_, R> {
+    fn row_made(&self) {
+        let made = self.made.fetch_add(1, Ordering::Relaxed).saturating_add(1);
+        self.line.put(format_args!("{made} of {} rows", self.rows));
+    }
+}
+
 /// Who runs scripts as another does, and whose line says how many runs are over.
 #[derive(Drop)]
 pub struct CountedRunner<'a, 'b, W, R> {

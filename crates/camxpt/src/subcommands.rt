@@ -1,9 +1,10 @@
 //! The subcommands, their arguments and the help.
 
+use crate::schedule_run::{BEST, BY_WEIGHT, FIRST_COME};
 use crate::word::NamedArgument;
 use crate::word::NamedArgument::{
-    Flag, NeededNumber, NeededText, NeededWord, Number, OneOf, ShellName, SmallNumber, Text, Texts,
-    Word, Words,
+    Flag, NeededNumber, NeededOneOf, NeededText, NeededWord, Number, OneOf, ShellName, SmallNumber,
+    Text, Texts, Word, Words,
 };
 use clap::Command;
 use std::alloc::{AllocError, Global};
@@ -12,6 +13,8 @@ use std::alloc::{AllocError, Global};
 pub(crate) const BY_NUMBER: &str = "number";
 
 const PAIRED_BY: &[&str] = &["name", BY_NUMBER];
+
+const ORDERS: &[&str] = &[FIRST_COME, BY_WEIGHT, BEST];
 
 const JSON: NamedArgument = Flag("json", "Prints one line of JSON");
 
@@ -57,8 +60,8 @@ pub(crate) struct Subcommand {
     pub(crate) words: &'static [NamedArgument],
 }
 
-/// The subcommands, in the order of the help.
-pub(crate) const SUBCOMMANDS: [Subcommand; 15] = [
+// The subcommands that say what an input has, in the order of the help.
+const VIEWS: [Subcommand; 8] = [
     Subcommand {
         name: "check",
         about: "Tests a trace or a recording and prints its counts and what its waiting cost",
@@ -104,6 +107,31 @@ pub(crate) const SUBCOMMANDS: [Subcommand; 15] = [
             Flag(
                 "rounds",
                 "Counts the waits of a recording in rounds, also where it says how long a round is",
+            ),
+            JSON,
+            EITHER,
+        ],
+    },
+    Subcommand {
+        name: "whatif",
+        about: "Says what the waiting would have cost by orders that know nothing of the future, and with more openings",
+        example: "Example: camxpt whatif examples/two-classes.csv --device 0=+1",
+        words: &[
+            Texts(
+                "device",
+                "DEVICE=CHANGE",
+                "A device by its name or number, and how many openings it has a round: +N more, xN times as many, =N at least N; several by commas make one row, adapter:N and link:N among them",
+            ),
+            Texts("adapter", "ADAPTER=CHANGE", "The same of an adapter"),
+            Texts("link", "LINK=CHANGE", "The same of a link"),
+            Texts(
+                "never-stopped",
+                "DEVICE",
+                "A device, adapter:N or link:N that takes its openings in each round in which it took nothing",
+            ),
+            Number(
+                "top",
+                "Without these options, lists at most so many of the changes that are tried; 10 if it is left out",
             ),
             JSON,
             EITHER,
@@ -163,6 +191,10 @@ pub(crate) const SUBCOMMANDS: [Subcommand; 15] = [
             ),
         ],
     },
+];
+
+// Those that make an input, and completions; the help has them after the others.
+const MAKERS: [Subcommand; 9] = [
     Subcommand {
         name: "sim",
         about: "Runs a script on one thread and prints the trace, and on standard error how the run ended",
@@ -212,6 +244,20 @@ pub(crate) const SUBCOMMANDS: [Subcommand; 15] = [
         about: "Prints the recording of a trace: its requests with their windows, and what each device, adapter and link took",
         example: "Example: camxpt record examples/frozen-device.csv",
         words: &[TRACE],
+    },
+    Subcommand {
+        name: "schedule",
+        about: "Prints the recording of a trace or a recording as another order would have started its requests",
+        example: "Example: camxpt schedule --order by-weight examples/two-classes.csv",
+        words: &[
+            NeededOneOf(
+                "order",
+                "ORDER",
+                ORDERS,
+                "Who came first goes first, the heaviest goes first, or a best schedule, which knows what comes",
+            ),
+            EITHER,
+        ],
     },
     Subcommand {
         name: "script",
@@ -290,17 +336,35 @@ pub(crate) const SUBCOMMANDS: [Subcommand; 15] = [
     },
 ];
 
+/// The subcommands that say what an input has, in the order of the help.
+pub(crate) fn views() -> &'static [Subcommand] {
+    &VIEWS
+}
+
+/// The other subcommands, in the order of the help.
+pub(crate) fn makers() -> &'static [Subcommand] {
+    &MAKERS
+}
+
 /// The words that the program takes.
 pub fn command<'a>(alloc: Global) -> Result<Command<'a>, AllocError> {
     let mut command = Command::new(alloc, "camxpt")
-        .version("0.3.0")
+        .version("0.4.0")
         .about(
             "Audits traces of a CAM transport and recordings of any scheduler, and runs scripts that record traces. With no arguments it prints the summary of the audit of the trace or recording on standard input.",
         )
         .after_help(
             "Exit status: 0 done, 1 not proved, 2 refused words, 3 refused input, 4 a file, read or write that failed, 5 no memory, 6 no thread, or threads that did what the script doesn't allow, 7 a run that didn't drain, with --require-drained",
         );
-    for subcommand in &SUBCOMMANDS {
+    for subcommand in views() {
+        command = command.subcommand(subcommand.command(alloc)?)?;
+    }
+    with_makers(alloc, command)
+}
+
+fn with_makers<'a>(alloc: Global, command: Command<'a>) -> Result<Command<'a>, AllocError> {
+    let mut command = command;
+    for subcommand in makers() {
         command = command.subcommand(subcommand.command(alloc)?)?;
     }
     Ok(command)

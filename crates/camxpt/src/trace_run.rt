@@ -1,4 +1,5 @@
-//! Checks, audits, explains and draws a trace or a recording, or writes its script; migrates or records a trace.
+//! Checks, audits, explains and draws a trace or a recording, or says what would have helped it; migrates or records a trace; writes the
+//! script of its load, or its recording by another order.
 
 ghost use Rattle.std.specs.Prelude.{◌≡◌, false};
 ghost use Rattle.cam_types.specs.Watched.{has_failed};
@@ -7,14 +8,16 @@ use crate::failure::Failure;
 use crate::load_run::{scripted, tell_left_out};
 use crate::output::{Output, closed, print};
 use crate::progress::{CountedReader, CountedWriter, ProgressLine};
+use crate::schedule_run::NewOrder;
 use crate::source::Source;
 use crate::view::View;
+use crate::what_if_run::{WhatIfRun, by_weight};
 use audit_report::{
     AuditFault, Input, read_input, read_net, run_audit_with, run_check, run_migrate, run_record,
 };
 use cam_types::Watched;
 use cost_plan::plan_with;
-use recording_file::Recording;
+use recording_file::{Recording, write_recording};
 use round_net::{Net, NetFault, RoundTable};
 use std::io::{Read, Write};
 use std::thread::Threads;
@@ -42,6 +45,10 @@ pub enum TraceRun<'a> {
     },
     /// It is explained, and the explanation is shown.
     Explain(View<'a>),
+    /// What its waiting would have cost by other orders and with more openings is shown.
+    WhatIf(WhatIfRun<'a>),
+    /// It is written as a recording whose requests are started by this order.
+    Schedule(NewOrder),
     /// It is written in the newest version.
     Migrate,
     /// It is written as a recording.
@@ -76,6 +83,10 @@ impl TraceRun<'_> {
                 tell_left_out(rt, &made);
                 return Ok(());
             }
+            TraceRun::Schedule(order) => {
+                let scheduled = order.over(rt, line, &mut trace)?;
+                return Ok(write_recording(alloc, &scheduled, &mut counted)?);
+            }
             TraceRun::CheckAsJson => {
                 let (_, net) = read_net(alloc, &mut trace)?;
                 closed(check_json(alloc, name, &net))?
@@ -88,7 +99,12 @@ impl TraceRun<'_> {
             }
             TraceRun::Explain(view) => {
                 let (net, explanation) = explanation_of(rt, line, &mut trace)?;
-                view.text(alloc, name, &net, &explanation)?
+                let made = by_weight(alloc, &net)?;
+                view.text(alloc, name, &net, &explanation, made.as_ref())?
+            }
+            TraceRun::WhatIf(run) => {
+                let (net, explanation) = explanation_of(rt, line, &mut trace)?;
+                run.text(rt, line, name, &net, &explanation)?
             }
         };
         line.clear();

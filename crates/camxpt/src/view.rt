@@ -12,7 +12,7 @@ use round_net::Net;
 use std::alloc::{AllocError, Global};
 use views::{explain_json, page};
 use wait_causes::Explanation;
-use wording::{Page, push_span};
+use wording::{ByWeight, Page, push_span};
 
 /// How an explanation is shown.
 #[derive(Clone, Copy)]
@@ -50,13 +50,15 @@ pub enum View<'a> {
 }
 
 impl View<'_> {
-    /// What is printed of the trace or recording of this name. It is refused to draw rounds that there aren't.
+    /// What is printed of the trace or recording of this name, beside the schedule of the order by weight, if all are sent in time by
+    /// it. It is refused to draw rounds that there aren't.
     pub fn text(
         self,
         alloc: Global,
         name: &str,
         net: &Net,
         explanation: &Explanation,
+        by_weight: Option<&ByWeight>,
     ) -> Result<String, Failure> {
         Ok(match self {
             View::Page {
@@ -66,7 +68,16 @@ impl View<'_> {
                 has_blame,
             } => {
                 let limited = limited(alloc, limits, explanation)?;
-                page(alloc, net, explanation, &limited, top, has_times, has_blame)?
+                page(
+                    alloc,
+                    net,
+                    explanation,
+                    &limited,
+                    top,
+                    has_times,
+                    has_blame,
+                    by_weight,
+                )?
             }
             View::Json {
                 limits,
@@ -83,7 +94,7 @@ impl View<'_> {
                     return Err(Failure::NoSuchRounds(net.rounds()));
                 }
                 let title = drawn_title(alloc, name, net, explanation)?;
-                draw(alloc, &title, rounds, net, explanation)?
+                draw(alloc, &title, rounds, net, explanation, by_weight)?
             }
             View::Timeline { waits } => {
                 closed(timeline_json(alloc, title(name), net, explanation, waits))?

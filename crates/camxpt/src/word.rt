@@ -17,6 +17,8 @@ pub(crate) enum NamedArgument {
     Texts(&'static str, &'static str, &'static str),
     /// An option with one of these words.
     OneOf(&'static str, &'static str, &'static [&'static str], &'static str),
+    /// The same, which can't be left out.
+    NeededOneOf(&'static str, &'static str, &'static [&'static str], &'static str),
     /// An option with a number, which the help calls N.
     Number(&'static str, &'static str),
     /// The same of 32 bits.
@@ -49,6 +51,11 @@ impl NamedArgument {
             }
             NamedArgument::OneOf(name, value, words, help) => {
                 option(alloc, name, value, help).value_parser(words)
+            }
+            NamedArgument::NeededOneOf(name, value, words, help) => {
+                option(alloc, name, value, help)
+                    .value_parser(words)
+                    .required(true)
             }
             NamedArgument::Number(name, help) => {
                 option(alloc, name, "N", help).value_parser(value_parser!(usize))

@@ -10,15 +10,16 @@ use crate::scene::Scene;
 use crate::section::push_ranges;
 use crate::style::{HEAD, STYLE};
 use crate::summary::push_summary;
-use crate::tables::{push_freezes, push_tables};
+use crate::tables::{push_freezes, push_level_waits, push_tables};
 use round_net::Net;
 use std::alloc::{AllocError, Global};
 use wait_causes::Explanation;
-use wording::Page;
+use wording::{ByWeight, Page};
 
 /// The page on the explanation of a history or a recording beside its net, which any browser opens: sentences on what the
 /// waiting cost, what cost most, an overview of all rounds, bars of stays with the causes of their waiting, tables, and what
-/// the words mean. All costs are weighted rounds. Any text may be the title. There is a bar for each stay if there are at most
+/// the words mean. All costs are weighted rounds. Beside what was recorded and the best schedule stands that of the order by weight,
+/// if all are sent in time by it. Any text may be the title. There is a bar for each stay if there are at most
 /// 4,096, or for those in the rounds that are asked for, by the first and the last of them, at most 4,096; otherwise for those in the costliest ranges of rounds. Its text is well-formed
 /// XML; of names, characters that XML doesn't allow are left out.
 pub fn draw(
@@ -27,6 +28,7 @@ pub fn draw(
     rounds: Option<(u32, u32)>,
     net: &Net,
     explanation: &Explanation,
+    by_weight: Option<&ByWeight>,
 ) -> Result<String, AllocError> {
     let stays = explanation.stays();
     let has_all = rounds.is_none() && stays.len() <= MAX_BARS;
@@ -35,11 +37,12 @@ pub fn draw(
     let choice = Choice::of(&scene, &figures, rounds)?;
     let mut page = Page::new(alloc);
     push_head(&mut page, &scene, title);
-    push_summary(&mut page, &scene);
+    push_summary(&mut page, &scene, by_weight);
     push_costliest(&mut page, &scene, &choice)?;
     push_overview(&mut page, &scene, &choice, &figures)?;
     push_ranges(&mut page, &scene, &choice)?;
     push_tables(&mut page, &scene)?;
+    push_level_waits(&mut page, &scene, by_weight)?;
     push_freezes(&mut page, &scene)?;
     let completions = scene.whole.latency.is_some();
     push_words(&mut page, explanation.kind(), completions, net.config());

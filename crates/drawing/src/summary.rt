@@ -4,16 +4,27 @@ use crate::scene::Scene;
 use cam_types::Config;
 use recording_file::Span;
 use wait_causes::{Part, WaitCause};
-use wording::{Page, push_number, push_numbers, push_rounds, push_share, push_signed, push_span};
+use wording::{
+    ByWeight, Page, push_number, push_numbers, push_rounds, push_share, push_signed, push_span,
+};
 
-/// Puts the sentences and totals on the page.
-pub(crate) fn push_summary(page: &mut Page, scene: &Scene) {
+/// Puts the sentences and totals on the page, with what the order by weight would have cost, if all are sent in time by it.
+pub(crate) fn push_summary(page: &mut Page, scene: &Scene, by_weight: Option<&ByWeight>) {
     let (whole, rounds) = (&scene.whole, u64::from(scene.net.rounds()));
     page.put("<div id='summary'>\n<p>");
     push_waited(page, scene, rounds);
     match whole.pace {
         Some(pace) => push_parts(page, scene.explanation.unit(), whole, pace),
         None => push_avoidable(page, whole),
+    }
+    if let Some(made) = by_weight {
+        page.put(" Had the heaviest gone first, as they came, it would have cost <b>");
+        push_cost(
+            page,
+            scene.explanation.unit().filter(|_| whole.pace.is_some()),
+            made.cost,
+        );
+        page.put("</b>.");
     }
     page.put("</p>\n");
     if whole.live > 0 {

@@ -6,7 +6,7 @@ use recording_file::NameKind;
 use std::alloc::AllocError;
 use std::cmp::Reverse;
 use wait_causes::{Freeze, FreezeKind, Grouping, Row};
-use wording::{Page, push_number, push_numbers, push_signed};
+use wording::{ByWeight, Page, WaitRanks, level_waits, push_number, push_numbers, push_signed};
 
 // The columns of how long stays waited.
 const WAITS: &str =
@@ -24,6 +24,14 @@ const CAUTION: &str =
 A cause's cost is no saving: without that cause the requests may wait for another one. A part's excess is what it cost less what it \
 costs in the one best schedule that was found; another best schedule may share it out otherwise. Only the excess of the whole could \
 have been saved.</p>\n";
+
+// What stands above the waits by three schedules.
+const LEVEL_WAITS: &str = "<section><h2>By other orders</h2>\n\
+<table class='wide' id='orders'><caption>Waits by class, in rounds: as recorded, by weight as they come, and in the best schedule\
+</caption><thead><tr><th scope='col'>class (run level)</th>\
+<th scope='col'>recorded p50</th><th scope='col'>p99</th><th scope='col'>p99.9</th>\
+<th scope='col'>by weight p50</th><th scope='col'>p99</th><th scope='col'>p99.9</th>\
+<th scope='col'>best p50</th><th scope='col'>p99</th><th scope='col'>p99.9</th></tr></thead><tbody>\n";
 
 // What stands above the freezes.
 const FREEZES: &str = "<section><h2>Freezes</h2>\n\
@@ -124,6 +132,35 @@ fn push_costs(page: &mut Page, scene: &Scene, by: Grouping, rows: &[Row]) {
         page.put("</tr>\n");
     }
     page.put("</tbody></table>\n");
+}
+
+/// Puts the percentiles of the waits of each run level on the page: as recorded, by the order by weight, and in the best schedule.
+pub(crate) fn push_level_waits(
+    page: &mut Page,
+    scene: &Scene,
+    by_weight: Option<&ByWeight>,
+) -> Result<(), AllocError> {
+    page.put(LEVEL_WAITS);
+    for level in &level_waits(scene.alloc, scene.explanation, by_weight)? {
+        push_head(page, scene, Grouping::Level, level.level);
+        push_ranks(page, Some(level.recorded));
+        push_ranks(page, level.by_weight);
+        push_ranks(page, Some(level.best));
+        page.put("</tr>\n");
+    }
+    page.put("</tbody></table></section>\n");
+    Ok(())
+}
+
+// Puts percentiles on the page, or that there are none.
+fn push_ranks(page: &mut Page, ranks: Option<WaitRanks>) {
+    match ranks {
+        Some(WaitRanks { p50, p99, p999 }) => push_cells(
+            page,
+            &[u64::from(p50), u64::from(p99), u64::from(p999)],
+        ),
+        None => page.put("<td>-</td><td>-</td><td>-</td>"),
+    }
 }
 
 /// Puts the table of the costliest freezes on the page, if there are some.

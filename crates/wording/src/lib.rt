@@ -9,8 +9,10 @@ pub use numbers::{
     nanoseconds, push_end, push_nanoseconds, push_number, push_numbers, push_range, push_round,
     push_rounds, push_share, push_signed, push_span, push_time, shift, spelled,
 };
+pub use waits_by_level::{ByWeight, LevelWaits, WaitRanks, level_waits};
 
 mod captions;
 mod causes;
 mod making;
 mod numbers;
+mod waits_by_level;

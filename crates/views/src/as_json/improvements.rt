@@ -5,19 +5,18 @@ ghost use Rattle.json.specs.Lex.{tokens};
 ghost use Rattle.json.specs.Print.{print};
 
 use crate::as_json::line::line;
-use crate::as_json::members::{put_member, put_object, unless_short};
-use crate::improvements::{WhatIfRow, WhatIfTable, Whose, levels_of, ranks_of};
+use crate::as_json::members::{put_member, put_object};
+use crate::improvements::{WhatIfRow, WhatIfTable};
 use serde::{Described, Serialize, Serializer};
 use std::alloc::{AllocError, Global};
 use wait_causes::Part;
+use wording::{LevelWaits, WaitRanks};
 
 // A table with what was recorded.
-#[derive(Drop)]
+#[derive(Clone, Copy)]
 struct Table<'a> {
-    alloc: Global,
     table: WhatIfTable<'a>,
     whole: Part,
-    levels: Vec<u32>,
 }
 
 impl Described for Table<'_> {}
@@ -34,49 +33,38 @@ impl Serialize for Table<'_> {
         }
         out.end_seq()?;
         out.key("classes")?;
-        out.begin_seq(Some(self.levels.len()))?;
-        for level in &self.levels {
-            self.put_level(out, *level)?;
+        out.begin_seq(Some(self.table.waits.len()))?;
+        for level in self.table.waits {
+            put_level(out, level)?;
         }
         out.end_seq()?;
         out.end_map()
     }
 }
 
-impl Table<'_> {
-    // Writes the ranks of the waits of a run level.
-    fn put_level<S: Serializer>(&self, out: &mut S, level: u32) -> Result<(), S::Error> {
-        out.begin_map(None)?;
-        put_member(out, "level", &level)?;
-        self.put_ranks(out, "recorded", level, Some(Whose::Recorded))?;
-        self.put_ranks(
-            out,
-            "by_weight",
-            level,
-            self.table.by_weight.map(Whose::ByWeight),
-        )?;
-        self.put_ranks(out, "best", level, Some(Whose::Best))?;
-        out.end_map()
-    }
+// Writes the percentiles of the waits of a run level.
+fn put_level<S: Serializer>(out: &mut S, level: &LevelWaits) -> Result<(), S::Error> {
+    out.begin_map(None)?;
+    put_member(out, "level", &level.level)?;
+    put_ranks(out, "recorded", Some(level.recorded))?;
+    put_ranks(out, "by_weight", level.by_weight)?;
+    put_ranks(out, "best", Some(level.best))?;
+    out.end_map()
+}
 
-    // Writes the ranks of its waits in a schedule, if there is one, as a member of the object that is open.
-    fn put_ranks<S: Serializer>(
-        &self,
-        out: &mut S,
-        key: &str,
-        level: u32,
-        whose: Option<Whose<'_>>,
-    ) -> Result<(), S::Error> {
-        out.key(key)?;
-        let Some(whose) = whose else {
-            return out.unit();
-        };
-        let stays = self.table.explanation.stays();
-        let ranks = unless_short(out, ranks_of(self.alloc, stays, level, whose))?;
-        put_object(
+// Writes percentiles, if there are some, as a member of the object that is open.
+fn put_ranks<S: Serializer>(
+    out: &mut S,
+    key: &str,
+    ranks: Option<WaitRanks>,
+) -> Result<(), S::Error> {
+    out.key(key)?;
+    match ranks {
+        Some(ranks) => put_object(
             out,
             &[("p50", ranks.p50), ("p99", ranks.p99), ("p999", ranks.p999)],
-        )
+        ),
+        None => out.unit(),
     }
 }
 
@@ -103,11 +91,7 @@ fn put_cost<S: Serializer>(out: &mut S, key: &str, cost: Option<u64>) -> Result<
 pub fn what_if_json(alloc: Global, table: WhatIfTable<'_>) -> Result<String, AllocError>
     ensures { IfOk result (λ s. string_bytes s ≡ print (tokens (string_bytes s))) }
 {
-    let made = Table {
-        alloc,
-        table,
-        whole: table.explanation.whole(alloc)?,
-        levels: levels_of(alloc, table.explanation.stays())?,
-    };
+    let whole = table.explanation.whole(alloc)?;
+    let made = Table { table, whole };
     line(alloc, &made)
 }

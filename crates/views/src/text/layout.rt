@@ -4,11 +4,12 @@ use crate::behind::behind_rows;
 use crate::limited::Limited;
 use crate::text::blame_table::{push_blame, push_worst_pair};
 use crate::text::freezes::push_freezes;
+use crate::text::level_waits::push_level_waits;
 use crate::text::limits::push_limits;
 use crate::text::order::{first_of, most_first};
 use crate::text::stays::push_stays;
 use crate::text::tables::push_tables;
-use crate::text::totals::push_totals;
+use crate::text::totals::{push_by_weight, push_totals};
 use crate::text::weights::push_weights;
 use crate::text::worst::push_worst;
 use blame::blame_of;
@@ -17,15 +18,16 @@ use recording_file::Span;
 use round_net::Net;
 use std::alloc::{AllocError, Global};
 use wait_causes::{Explanation, Grouping, InputKind, Part};
-use wording::{Captions, Page, plain_words, spelled};
+use wording::{ByWeight, Captions, LevelWaits, Page, level_waits, plain_words, spelled};
 
 // What stands below the costs by cause.
 const NO_SAVING: &str =
     "\nWhat a cause cost isn't what would be saved without it: the same stays may then wait for another cause.\n";
 
 /// The page on an explanation: what the waiting cost, of a recording in its three parts, how these limits were kept, the weights if they aren't the standard ones,
-/// the pair of drivers, the stay, the device and the freeze that cost most, the cost by cause and by what full rows sent, tables by adapter, device, driver and run level, and
-/// at most `top` of the freezes and of the stays that cost most, these with the causes of their rounds, and who waited for whom, if that is asked for. Costs are weighted rounds;
+/// the pair of drivers, the stay, the device and the freeze that cost most, the cost by cause and by what full rows sent, tables by adapter, device, driver and run level,
+/// percentiles of the waits of each run level as recorded, by weight if all are sent in time so, and in the best schedule, and at most `top`
+/// of the freezes and of the stays that cost most, these with the causes of their rounds, and who waited for whom, if that is asked for. Costs are weighted rounds;
 /// where it is known how long a round is, and times are wanted, the waits of a recording are times.
 pub fn page(
     alloc: Global,
@@ -35,17 +37,31 @@ pub fn page(
     top: usize,
     has_times: bool,
     has_blame: bool,
+    by_weight: Option<&ByWeight>,
 ) -> Result<String, AllocError> {
     let mut page = Page::new(alloc);
     let (config, whole) = (net.config(), explanation.whole(alloc)?);
     let unit = explanation.unit().filter(|_| has_times);
     push_totals(alloc, &mut page, unit, net.rounds(), &whole)?;
+    if let Some(made) = by_weight {
+        push_by_weight(alloc, &mut page, unit, &whole, made.cost)?;
+    }
     push_limits(&mut page, limits);
     push_weights(&mut page, config);
     let captions = Captions::of(config, explanation);
     let drivers = blame_of(alloc, explanation, Grouping::Driver)?;
     push_worst_pair(alloc, &mut page, captions, unit, &drivers)?;
-    push_costs(alloc, &mut page, captions, explanation, &whole, top, unit)?;
+    let waits = level_waits(alloc, explanation, by_weight)?;
+    push_costs(
+        alloc,
+        &mut page,
+        captions,
+        explanation,
+        &whole,
+        &waits,
+        top,
+        unit,
+    )?;
     if has_blame {
         page.put("\nWho was in the way of whom:\n");
         let levels = blame_of(alloc, explanation, Grouping::Level)?;
@@ -62,6 +78,7 @@ fn push_costs(
     captions: Captions<'_>,
     explanation: &Explanation,
     whole: &Part,
+    waits: &[LevelWaits],
     top: usize,
     unit: Option<Span>,
 ) -> Result<(), AllocError> {
@@ -89,6 +106,8 @@ fn push_costs(
     )?;
     push_behind(alloc, page, whole, unit)?;
     push_tables(alloc, page, captions, explanation, unit)?;
+    page.put("\nHow long they wait as recorded, by weight and in the best schedule:\n\n");
+    push_level_waits(alloc, page, captions, waits, unit)?;
     push_freezes(alloc, page, captions, &freezes, &worst_freezes, top)?;
     push_stays(alloc, page, captions, explanation, unit, &worst_stays, top)
 }

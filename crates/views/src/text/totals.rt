@@ -5,6 +5,9 @@ use std::alloc::{AllocError, Global};
 use wait_causes::Part;
 use wording::{Page, nanoseconds, push_nanoseconds, push_number, push_share, push_span, spelled};
 
+// What the order by weight is.
+const BY_WEIGHT: &str = "the heaviest first as they came, which needs no hindsight";
+
 /// Puts what the waiting cost beside the other schedules on the page, by our words and by those of who looks after storage. Where it is
 /// known how long a round is, a recording has times.
 pub(crate) fn push_totals(
@@ -24,6 +27,28 @@ pub(crate) fn push_totals(
             Ok(())
         }
     }
+}
+
+/// Puts what the waiting would have cost by weight on the page.
+pub(crate) fn push_by_weight(
+    alloc: Global,
+    page: &mut Page,
+    unit: Option<Span>,
+    whole: &Part,
+    cost: u64,
+) -> Result<(), AllocError> {
+    let shown = spelled(alloc, unit, cost)?;
+    match whole.pace {
+        Some(_) => page.show(format_args!("{:<15} {shown:>10}  {BY_WEIGHT}", "by weight")),
+        None => page.show(format_args!("{:<13} {shown:>9}  {BY_WEIGHT}", "by weight")),
+    }
+    if unit.is_some() {
+        page.put(" (");
+        push_number(page, cost);
+        page.put(")");
+    }
+    page.put("\n");
+    Ok(())
 }
 
 // Those of a trace.

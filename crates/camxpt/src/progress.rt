@@ -95,6 +95,15 @@ impl<R: Clock + Eprint> Progress for ProgressLine<'_, R> {
 impl<R: Clock + Eprint> PlanProgress for ProgressLine<'_, R> {
     fn begun(&self, _adapter: u32) {}
 
+    fn mended(&self, mended: u32, rounds: u32) {
+        if mended >= rounds {
+            self.put("checking the plan");
+        } else {
+            let part = u64::from(mended) * 100 / u64::from(rounds.max(1));
+            self.put(format_args!("mended some {part} %"));
+        }
+    }
+
     fn planned(&self, done: Done) {
         if done.planned >= done.parts {
             self.put("checking the plan");

@@ -85,7 +85,7 @@ fn a_guess_of_1024_stays_is_best(rt: HostRuntime) -> Result<(), Fail> {
         );
     }
     // Over a link.
-    let net = plan_progress::net(rt.alloc(), 1024, true)?;
+    let net = plan_progress::linked_net(rt.alloc(), 1024)?;
     assert_eq!(rt; guessed(&rt, rt.alloc(), &net)?, (1024, true, true));
     Ok(())
 }

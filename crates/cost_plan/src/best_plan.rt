@@ -13,6 +13,7 @@ ghost use Rattle.cost_plan.specs.Ties.{KeepsLive};
 ghost use Rattle.cost_plan.specs.InTurn.{TakesTurns};
 
 use crate::begin::{Start, begin, guessed, live};
+use crate::busy_spans::are_spans_long;
 use crate::by_weight::plan_by_weight;
 use crate::cells::nodes;
 use crate::keep_live::keep_live;
@@ -21,6 +22,7 @@ use crate::parts::guessed_at_once;
 use crate::plan_progress::{NoPlanProgress, PlanProgress};
 use crate::pricing::prices_of;
 use crate::relax::relax_all;
+use crate::repairing::plan_by_repair;
 use crate::search::search;
 use crate::take_turns::take_turns;
 use crate::working_schedule::{WorkingSchedule, change_all};
@@ -29,7 +31,7 @@ use round_net::{Net, Prices, Schedule};
 use std::alloc::{AllocError, Global};
 use std::thread::Threads;
 
-// Up to that many stays a guess by shortest paths and its changes take less time than a plan by levels.
+// Up to that many stays a guess by shortest paths and its changes take less time than a plan by repair or by levels.
 const FEW_STAYS: u32 = 4096;
 
 /// A schedule of least cost, and prices that prove it.
@@ -46,8 +48,8 @@ pub struct BestPlan {
 /// live, as far as their windows allow them to change rounds; only where there are more than 4,096 of them, and the window of
 /// one ends before the last round, may they be sent in another. Which of several such plans it is isn't promised. It begins
 /// with the order by weight, which is the plan if prices in closed form prove it. Else, for a net of more than 4,096 stays, a plan by
-/// levels of time is tried. Then it makes a guess by shortest paths, and as long as some stays can change rounds together so that all
-/// cost less, it changes them.
+/// repair of that order and one by levels of time are tried. Then it makes a guess by shortest paths, and as long as some stays can
+/// change rounds together so that all cost less, it changes them.
 pub fn plan(alloc: Global, net: &Net) -> Result<BestPlan, AllocError>
     ensures proved { IfOk result (λ best. ProvesBest (instance_of_rows net.now) (slice_index best.schedule) (pricing_of_rows best.prices)) }
     ensures stays { IfOk result (λ best. length best.schedule ≡ (instance_of_rows net.now).stays) }
@@ -67,8 +69,8 @@ pub fn plan(alloc: Global, net: &Net) -> Result<BestPlan, AllocError>
 /// A best plan of the net, as `plan` makes it. But the guess by shortest paths is made for each part that has a stay by itself, and
 /// for all of them at once: for one by the caller's thread, and for each other one by a thread of its own. A part is all adapters on one
 /// link, or an adapter on no link. The thread that begins a part passes its least adapter to `progress` first. Where no thread can be
-/// started, the one that would have started it makes the part. The order by weight and a plan by levels of time, which are tried
-/// before, are made by the caller's thread, which passes each level to `progress`.
+/// started, the one that would have started it makes the part. The order by weight and plans by repair and by levels of time,
+/// which are tried before, are made by the caller's thread, which passes to `progress` how far they are.
 pub fn plan_with<G: PlanProgress + Sync, R: Threads + Sync>(
     rt: &R,
     alloc: Global,
@@ -93,7 +95,8 @@ pub fn plan_with<G: PlanProgress + Sync, R: Threads + Sync>(
     keep_live(alloc, net, in_turn)
 }
 
-// A guess whose prices prove it best, if there is one: the order by weight, or for a net of many stays a plan by levels.
+// A guess whose prices prove it best, if there is one: the order by weight, or for a net of many stays a plan by repair or by
+// levels.
 fn proved_guess<G: PlanProgress>(
     alloc: Global,
     net: &Net,
@@ -110,7 +113,17 @@ fn proved_guess<G: PlanProgress>(
     if net.stays() <= FEW_STAYS {
         return Ok(None);
     }
-    plan_by_levels(alloc, net, progress)
+    if are_spans_long(alloc, net)? {
+        match plan_by_levels(alloc, net, progress)? {
+            Some(best) => Ok(Some(best)),
+            None => plan_by_repair(alloc, net, progress),
+        }
+    } else {
+        match plan_by_repair(alloc, net, progress)? {
+            Some(best) => Ok(Some(best)),
+            None => plan_by_levels(alloc, net, progress),
+        }
+    }
 }
 
 // The best plan that comes of a working schedule with potentials.

@@ -1,6 +1,6 @@
 //! A schedule of least cost for a net, with prices that prove it: a minimum cost flow. The order by weight is the first
-//! guess; if its prices don't prove it, a guess by levels of time or by successive shortest paths follows, which is improved by cancelling
-//! negative cycles (Klein 1967), whose potentials give the prices (linear duality).
+//! guess; if its prices don't prove it, guesses by repair of that order and by levels of time follow, or one by successive shortest
+//! paths, which is improved by cancelling negative cycles (Klein 1967), whose potentials give the prices (linear duality).
 #![tactic(auto)]
 
 pub use best_plan::{BestPlan, guessed_plan, guessed_plan_with, plan, plan_with};
@@ -10,11 +10,13 @@ pub use time_levels::Done;
 mod arcs;
 mod begin;
 mod best_plan;
+mod busy_spans;
 mod by_weight;
 mod cells;
 mod keep_live;
 mod keeping;
 mod levels;
+mod lists;
 mod one_kind;
 mod part;
 mod part_name;
@@ -23,7 +25,9 @@ mod plan_progress;
 mod pricing;
 mod problem;
 mod relax;
+mod repairing;
 mod search;
 mod take_turns;
 mod turn_order;
+mod units;
 mod working_schedule;

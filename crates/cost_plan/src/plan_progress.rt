@@ -10,6 +10,10 @@ pub trait PlanProgress {
 
     /// That much of a plan by levels of time is made. The caller's thread says so.
     fn planned(&self, _done: Done) {}
+
+    /// So many of a plan's rounds are mended, of so many in all: a plan by repair goes from the last round to the first. The
+    /// caller's thread says so, now and then.
+    fn mended(&self, _mended: u32, _rounds: u32) {}
 }
 
 /// Ignores the progress of a plan.

@@ -3,11 +3,13 @@
 //! Gowen 1960). The result is a guess: that it is a best plan isn't proved here.
 #![tactic(auto)]
 
+pub use budget::Budget;
 pub use network::{MAX_WEIGHT, Network, NetworkStay};
 pub use planning::{Repaired, plan};
 pub use progress::{Done, NoProgress, Progress};
 
 mod arc;
+mod budget;
 mod caps;
 mod columns;
 mod direction;

@@ -1,6 +1,7 @@
 //! Mending of a plan, from the last round to the first: each round gets its potentials, and what isn't best at these is moved at once,
 //! to this round and those after it.
 
+use crate::budget::Budget;
 use crate::columns::Columns;
 use crate::direction::Direction;
 use crate::live_stays::LiveStays;
@@ -24,8 +25,8 @@ pub struct Mending {
 }
 
 impl Mending {
-    /// Nothing to mend yet, where all searches together may take so many nodes.
-    pub fn new(alloc: Global, columns: &Columns, budget: u64) -> Result<Mending, AllocError> {
+    /// Nothing to mend yet, where all searches together have this budget.
+    pub fn new(alloc: Global, columns: &Columns, budget: Budget) -> Result<Mending, AllocError> {
         Ok(Mending {
             search: Search::new(alloc, budget),
             unbalanced: Vec::new(alloc),

@@ -4,6 +4,7 @@
 ghost use Rattle.std.specs.Prelude.{◌≡◌, ◌*◌, length, IfOk};
 ghost use Rattle.std.specs.Option.{IfSome};
 
+use crate::budget::Budget;
 use crate::columns::Columns;
 use crate::ends::send_before_ends;
 use crate::giving::give_rounds;
@@ -14,12 +15,6 @@ use crate::progress::Progress;
 use crate::sending::{add_arrivals, send_by_weight};
 use crate::time_net::TimeNet;
 use std::alloc::{AllocError, Global};
-
-/// How many nodes all searches of a plan together may take: 8,000,000 take about a second.
-const BUDGET: u64 = 8_000_000;
-
-/// The same where stays end early, since other planners take much longer there.
-const BUDGET_WITH_ENDS: u64 = 64_000_000;
 
 /// A guess at a best plan.
 #[derive(Drop)]
@@ -32,11 +27,12 @@ pub struct Repaired {
 }
 
 /// A guess at a best plan: when each stay is sent so that their waiting costs least in all. There is none if it finds no room for
-/// some of them in the rounds that they have, if it would take too long, or if a stay's unit, weight or rounds aren't as
+/// some of them in the rounds that they have, if the budget runs out, or if a stay's unit, weight or rounds aren't as
 /// `NetworkStay` says. The only error is that there is no memory left.
 pub fn plan<P: Progress>(
     alloc: Global,
     network: &Network,
+    budget: Budget,
     progress: &P,
 ) -> Result<Option<Repaired>, AllocError>
     ensures rounds { IfOk result (λ found. IfSome found (λ plan. length plan.rounds.items ≡ length network.now.stays.items)) }
@@ -49,7 +45,7 @@ pub fn plan<P: Progress>(
     if !add_arrivals(&mut net, &columns, network) {
         return Ok(None);
     }
-    let budget = send(alloc, &mut net, &columns, network)?;
+    send(alloc, &mut net, &columns, network)?;
     let mut mending = Mending::new(alloc, &columns, budget)?;
     if !mending.mend(alloc, &mut net, &columns, progress)? {
         return Ok(None);
@@ -69,19 +65,17 @@ pub fn plan<P: Progress>(
     Ok(Some(Repaired { rounds, prices }))
 }
 
-// Sends what comes in the order by weight, and answers how many nodes all searches that mend it may take.
+// Sends what comes in the order by weight.
 fn send(
     alloc: Global,
     net: &mut TimeNet,
     columns: &Columns,
     network: &Network,
-) -> Result<u64, AllocError> {
+) -> Result<(), AllocError> {
     if network.has_ends() {
         net.prepare_lone(alloc, network)?;
-        send_before_ends(alloc, net, columns, network)?;
-        Ok(BUDGET_WITH_ENDS)
+        send_before_ends(alloc, net, columns, network)
     } else {
-        send_by_weight(alloc, net, columns)?;
-        Ok(BUDGET)
+        send_by_weight(alloc, net, columns)
     }
 }

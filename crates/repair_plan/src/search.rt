@@ -1,6 +1,7 @@
 //! Dijkstra's algorithm on reduced costs (Edmonds and Karp 1972; Tomizawa 1971): the cheapest path from or to a node, and the
 //! requests that are moved along it.
 
+use crate::budget::Budget;
 use crate::columns::Columns;
 use crate::direction::Direction;
 use crate::path::{Goal, Path};
@@ -24,13 +25,13 @@ pub enum Found {
 pub struct Search {
     reach: Reach,
     path: Path,
-    // How many nodes all searches together may still take.
-    budget: u64,
+    // What all searches together may still take.
+    budget: Budget,
 }
 
 impl Search {
-    /// A search that has reached no node, where all searches together may take so many.
-    pub fn new(alloc: Global, budget: u64) -> Search {
+    /// A search that has reached no node, where all searches together have this budget.
+    pub fn new(alloc: Global, budget: Budget) -> Search {
         Search {
             reach: Reach::new(alloc),
             path: Path::new(alloc),
@@ -85,16 +86,16 @@ impl Search {
     // Looks on from one node after another, the nearest first, until none is nearer than the goal. Answers whether the budget
     // sufficed.
     fn look_on(&mut self, net: &mut TimeNet, columns: &Columns) -> Result<bool, AllocError> {
-        let mut left = self.budget;
+        let mut left = self.budget.nodes;
         while left > 0 {
             let Some(number) = self.reach.take() else {
-                self.budget = left;
+                self.budget.nodes = left;
                 return Ok(true);
             };
             let scanned = self.reach.look_from(net, columns, number)?;
             left = (left - 1).saturating_sub(scanned);
         }
-        self.budget = 0;
+        self.budget.nodes = 0;
         Ok(false)
     }
 
@@ -114,6 +115,7 @@ impl Search {
             return Ok(Found::NoPath);
         }
         self.path.send(net, count);
+        self.budget.nodes = self.budget.nodes.saturating_add(self.budget.nodes_per_path);
         Ok(Found::Moved)
     }
 }

@@ -2,9 +2,15 @@
 
 use super::generated::{Shape, network};
 use super::verdict::{Verdict, judge};
+use repair_plan::Budget;
 use std::alloc::{AllocError, Global};
 use std::test::Fail;
 use time_levels::{Levels, Network};
+
+const BUDGET: Budget = Budget {
+    nodes: 8_000_000,
+    nodes_per_path: 0,
+};
 
 // The same units, and a stay for each request that comes. Each may wait to the end.
 fn stays_of(alloc: Global, network: &Network) -> Result<repair_plan::Network, AllocError> {
@@ -62,7 +68,7 @@ fn flows_of(
 pub(super) fn verdict_of(alloc: Global, shape: Shape) -> Result<Option<Verdict>, Fail> {
     let network = network(alloc, shape)?;
     let stays = stays_of(alloc, &network)?;
-    match repair_plan::plan(alloc, &stays, &repair_plan::NoProgress)? {
+    match repair_plan::plan(alloc, &stays, BUDGET, &repair_plan::NoProgress)? {
         Some(plan) => {
             let levels = flows_of(alloc, &network, plan)?;
             Ok(Some(judge(alloc, &network, &levels)?))

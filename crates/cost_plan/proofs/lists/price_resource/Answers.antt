@@ -1,6 +1,6 @@
 use Rattle.cost_plan.specs.Words.{instance_of_rows}
 use Rattle.cost_plan.proofs.PricedLemmas.{IsPricingFor-kept}
-use Rattle.cost_plan.proofs.levels.price_resource.Goals as goal
+use Rattle.cost_plan.proofs.lists.price_resource.Goals as goal
 
 pub loop-round-preserved : goal.loop-round-preserved
 loop-round-preserved c =

@@ -13,7 +13,7 @@ use Rattle.recording_file.specs.declared.limits.TheConstants.{MAX_RECORDED_ROUND
 use Rattle.recording_file.proofs.ListLemmas.{all_of_flat, all_of_filter}
 use Rattle.capture.specs.Timed.{TimedRequest, arrival_of, most_of, is_started, start_of, arriving, by_arrival, started}
 use Rattle.capture.specs.Rounds.{round_at, first_arrival, rounds_of, unless_end, last_round, done_round, request_in}
-use Rattle.capture.specs.Faults.{BadPriority, StartedEarly, EndedEarly, NothingStarted, TooManyRequests, TooManyRounds, is_early, is_ended_early, request_fault, size_fault, IsInRounds}
+use Rattle.capture.specs.Faults.{BadPriority, StartedEarly, EndedEarly, NothingStarted, TooManyRequests, TooManyRounds, is_early, is_ended_early, request_fault, size_fault, late_fault, IsInRounds}
 
 -- each number is at most the greatest
 pub each_most : {X : Type 0} (f : X → ℕ) (xs : List X) → All (λ x. f x ≤ most_of f xs) xs
@@ -145,3 +145,35 @@ size_fits requests rounds = elim (requests == 0) as (λ b. cond b (Some NothingS
     ] refl
   ] refl
 ]
+
+-- the same in rounds from a time on
+pub record IsInTime (rounds requests last : ℕ) : Type 0 where
+  pub many : requests ≤ MAX_REQUESTS
+  pub early : last ≤ rounds
+
+pub starts_in_time : (rounds requests last : ℕ) → late_fault rounds requests last ≡ None → IsInTime rounds requests last
+unfolding late_fault
+starts_in_time rounds requests last = elim (nat_lt MAX_REQUESTS requests) as (λ b. nat_lt MAX_REQUESTS requests ≡ b → cond b (Some (TooManyRequests requests)) (cond (nat_lt rounds last) (Some (TooManyRounds last)) None) ≡ None → IsInTime rounds requests last) [
+  | true ↦ λ is e. absurd cc
+  | false ↦ λ few. elim (nat_lt rounds last) as (λ b. nat_lt rounds last ≡ b → cond b (Some (TooManyRounds last)) None ≡ None → IsInTime rounds requests last) [
+    | true ↦ λ is e. absurd cc
+    | false ↦ λ short e. record { many = ltb-false MAX_REQUESTS requests few; early = ltb-false rounds last short }
+  ] refl
+] refl
+
+pub starts_before : (span begin rounds : ℕ) (qs : List TimedRequest) → 1 ≤ span → round_at span begin (most_of start_of qs) ≤ rounds → All (λ q. round_at span begin (start_of q) ≤ rounds) qs
+starts_before span begin rounds qs some le = λ k d lt.
+    let later = round_later span begin _ _ some (each_most start_of qs k d lt) in
+    omega arith
+
+pub arrivals_before : (span begin rounds : ℕ) (qs : List TimedRequest) → 1 ≤ span → All IsFit qs → round_at span begin (most_of start_of qs) ≤ rounds → All (λ q. round_at span begin q.arrival ≤ rounds) qs
+arrivals_before span begin rounds qs some fit le = λ k d lt.
+    let is = fit k d lt in
+    let order = is.order in
+    let most = each_most start_of qs k d lt in
+    let later = round_later span begin (get_or qs k d).arrival (most_of start_of qs) some (omega arith) in
+    omega arith
+
+pub all_from : (span begin rounds : ℕ) (qs : List TimedRequest) → 1 ≤ span → All IsFit qs → round_at span begin (most_of start_of qs) ≤ rounds → All (IsInRounds rounds) (map (request_in span begin rounds) qs)
+all_from span begin rounds qs some fit le =
+    All-map (IsInRounds rounds) (request_in span begin rounds) qs (λ k d lt. in_round span begin rounds (get_or qs k d) some (fit k d lt) (starts_before span begin rounds qs some le k d lt))

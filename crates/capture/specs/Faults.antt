@@ -11,8 +11,8 @@ use Rattle.recording_file.specs.Names.{NameValue, is_name}
 use Rattle.recording_file.specs.Recorded.{last_of}
 use Rattle.recording_file.specs.declared.limits.TheConstants.{MAX_RECORDED_ROUNDS, MAX_REQUESTS}
 use Rattle.recording_file.specs.declared.request.Request.{Request}
-use Rattle.capture.specs.Timed.{TimedRequest, is_started, start_of}
-use Rattle.capture.specs.Rounds.{Rounded, Span, in_rounds}
+use Rattle.capture.specs.Timed.{TimedRequest, is_started, start_of, most_of, started}
+use Rattle.capture.specs.Rounds.{Rounded, Span, in_rounds, rounds_from, round_at, span_nanoseconds}
 pub use Rattle.capture.specs.declared.capture_fault.CaptureFault.{CaptureFault}
 pub use Rattle.capture.specs.declared.capture_fault.CaptureFault.TheVariants.{BadPriority, StartedEarly, EndedEarly, NothingStarted, TooManyRequests, TooManyRounds, TooManyInRound, NoDevice, BadName, OutOfMemory}
 use Rattle.capture.specs.declared.capture_fault.TheConstants.{MAX_IN_ROUND}
@@ -58,6 +58,18 @@ abbrev pub capture_fault : Span → List TimedRequest → Option CaptureFault
 capture_fault unit qs =
     let r = in_rounds unit qs in
     option_or (first_answer request_fault (prefixed qs)) (option_or (size_fault (length r.requests) r.rounds) (crowd_fault r))
+
+-- why that many started requests can't be recorded in that many rounds, where the last start is in that round
+unfoldable pub late_fault : ℕ → ℕ → ℕ → Option CaptureFault
+late_fault rounds requests last =
+    if nat_lt MAX_REQUESTS requests then Some (TooManyRequests requests)
+    else if nat_lt rounds last then Some (TooManyRounds last)
+    else None
+
+-- the first reason why requests in time are not a capture of that many rounds from that time on
+abbrev pub rounds_fault : Span → ℕ → ℕ → List TimedRequest → Option CaptureFault
+rounds_fault unit begin rounds qs =
+    option_or (first_answer request_fault (prefixed qs)) (option_or (late_fault rounds (length (started qs)) (round_at (span_nanoseconds unit) begin (most_of start_of (started qs)))) (crowd_fault (rounds_from unit begin rounds qs)))
 
 -- a request of a capture of that many rounds
 pub record IsInRounds (rounds : ℕ) (q : Request) : Type 0 where

@@ -84,3 +84,11 @@ rounded unit qs =
 -- a capture's requests in rounds: those that were started, by arrival
 abbrev pub in_rounds : Span → List TimedRequest → Rounded
 in_rounds unit qs = rounded unit (started qs)
+
+-- requests that were started, by arrival, in that many rounds, of which the first begins at that time
+abbrev pub rounds_from : Span → ℕ → ℕ → List TimedRequest → Rounded
+rounds_from unit begin rounds qs = record {
+  unit = unit;
+  rounds = rounds;
+  requests = map (request_in (span_nanoseconds unit) begin rounds) (started qs);
+}

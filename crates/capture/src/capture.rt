@@ -6,7 +6,7 @@ use crate::median::{middle, numbers_where};
 use crate::recording::recording_with;
 use crate::request_faults::check_requests;
 use crate::round_starts::check_crowds;
-use crate::rounds::{first_arrival, requests_in, rounds_of};
+use crate::rounds::{check_starts, first_arrival, requests_in, rounds_of};
 use crate::span_time::span_nanoseconds;
 use crate::started::started;
 use crate::timed_request::TimedRequest;
@@ -40,8 +40,9 @@ impl Capture {
     ghost use Rattle.cam_types.specs.declared.limits.TheConstants.{MAX_OPENINGS};
     ghost use Rattle.capture.specs.Captured.{recorded_of, captured, NeverLimits};
     ghost use Rattle.capture.specs.Timed.{TimedRequest, is_started};
-    ghost use Rattle.capture.specs.Faults.{IsCapture, capture_fault, recording_fault, OutOfMemory};
-    ghost use Rattle.capture.specs.Rounds.{in_rounds};
+    ghost use Rattle.capture.specs.Faults.{IsCapture, capture_fault, rounds_fault, recording_fault, OutOfMemory};
+    ghost use Rattle.capture.specs.Rounds.{in_rounds, rounds_from};
+    ghost use Rattle.recording_file.specs.declared.limits.TheConstants.{MAX_RECORDED_ROUNDS};
     ghost use Rattle.capture.specs.Usual.{usual_taken};
 
     /// The requests that were started, in rounds of that span.
@@ -67,6 +68,41 @@ impl Capture {
         let taken = started(alloc, requests)?;
         let rounds = rounds_of(span, &taken)?;
         let requests = requests_in(alloc, span, first_arrival(&taken), rounds, &taken)?;
+        check_crowds(alloc, rounds, &requests)?;
+        Ok(Capture {
+            round,
+            rounds,
+            requests,
+        })
+    }
+
+    /// The requests that were started, in that many rounds of that span, of which the first begins at that time, in nanoseconds. What
+    /// arrives before it arrives in the first round.
+    ///
+    /// # Errors
+    ///
+    /// The first of these: `BadPriority`, `StartedEarly` or `EndedEarly` of the first request that has one of them, `TooManyRequests`,
+    /// `TooManyRounds` if one was started after the last round, `TooManyInRound` with the first such round. `OutOfMemory` if no
+    /// memory is left.
+    pub fn in_rounds_from(
+        alloc: Global,
+        round: Span,
+        begin: u64,
+        rounds: u32,
+        requests: &[TimedRequest],
+    ) -> Result<Capture, CaptureFault>
+        requires span { 1 ≤ round.count }
+        requires some { 1 ≤ rounds }
+        requires few { rounds ≤ MAX_RECORDED_ROUNDS }
+        ensures capture { IfOk result (λ c. c ≡ rounds_from round begin rounds requests.now) }
+        ensures ok { OnOk result (rounds_fault round begin rounds requests.now ≡ None) }
+        ensures err { IfErr result (λ e. e ≢ OutOfMemory → rounds_fault round begin rounds requests.now ≡ Some e) }
+    {
+        check_requests(requests)?;
+        let span = span_nanoseconds(round);
+        let taken = started(alloc, requests)?;
+        check_starts(span, begin, rounds, &taken)?;
+        let requests = requests_in(alloc, span, begin, rounds, &taken)?;
         check_crowds(alloc, rounds, &requests)?;
         Ok(Capture {
             round,

@@ -2,9 +2,9 @@
 
 ghost use Rattle.std.specs.Prelude.{◌≡◌, ◌≤◌, None, Some, IfOk, IfErr, OnOk, length, map, All, option_and_then};
 ghost use Rattle.recording_file.specs.declared.limits.TheConstants.{MAX_RECORDED_ROUNDS};
-ghost use Rattle.capture.specs.Timed.{start_of};
+ghost use Rattle.capture.specs.Timed.{start_of, most_of};
 ghost use Rattle.capture.specs.Rounds.{round_at, first_arrival, rounds_of, unless_end, last_round, done_round, request_in};
-ghost use Rattle.capture.specs.Faults.{size_fault};
+ghost use Rattle.capture.specs.Faults.{size_fault, late_fault};
 
 use crate::capture_fault::CaptureFault;
 use crate::started::{last_start, start_of};
@@ -45,6 +45,32 @@ pub fn rounds_of(span: u64, requests: &[TimedRequest]) -> Result<u32, CaptureFau
         return Err(CaptureFault::TooManyRounds(u128::from(before) + 1));
     }
     Ok(before as u32 + 1)
+}
+
+/// Whether none of these was started after the last of that many rounds, and there are no more than a recording has.
+///
+/// # Errors
+///
+/// `TooManyRequests` or `TooManyRounds`, the first in this order.
+#[tactic(auto, unfolding(crate::specs::Faults::late_fault))]
+pub fn check_starts(
+    span: u64,
+    begin: u64,
+    rounds: u32,
+    requests: &[TimedRequest],
+) -> Result<(), CaptureFault>
+    requires { 1 ≤ span }
+    ensures ok { OnOk result (late_fault rounds (length requests.now) (round_at span begin (most_of start_of requests.now)) ≡ None) }
+    ensures err { IfErr result (λ e. late_fault rounds (length requests.now) (round_at span begin (most_of start_of requests.now)) ≡ Some e) }
+{
+    if requests.len() > MAX_REQUESTS {
+        return Err(CaptureFault::TooManyRequests(requests.len()));
+    }
+    let before = last_start(requests).saturating_sub(begin) / span;
+    if before >= u64::from(rounds) {
+        return Err(CaptureFault::TooManyRounds(u128::from(before) + 1));
+    }
+    Ok(())
 }
 
 /// Started requests in rounds. It fails only if there is no memory.

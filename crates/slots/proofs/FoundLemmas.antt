@@ -15,14 +15,14 @@ use Rattle.slots.proofs.ServiceLemmas.{mean_of-some, last_by, last_times-by}
 
 -- ---- slots are seen if the sum of the times is above 0
 
-seen_none : (ts : List ℕ) → sum ts ≡ 0 → list_any (nat_lt 0) ts ≡ false
+pub seen_none : (ts : List ℕ) → sum ts ≡ 0 → list_any (nat_lt 0) ts ≡ false
 seen_none [] none = refl
 seen_none (t ∷ ts) none =
     let is = sum_by-cons (λ n. n) t ts in
     let zero_here : t ≤ 0 = omega (arith, is, none) in
     rw (le-ltb 0 t zero_here) (seen_none ts (omega (arith, is, none)))
 
-seen_some : (ts : List ℕ) → 0 < sum ts → list_any (nat_lt 0) ts ≡ true
+pub seen_some : (ts : List ℕ) → 0 < sum ts → list_any (nat_lt 0) ts ≡ true
 seen_some [] some = absurd (omega arith)
 seen_some (t ∷ ts) some =
     let is = sum_by-cons (λ n. n) t ts in
@@ -109,35 +109,30 @@ in_flight-reached (f ∷ fs) =
 -- ---- the service time is above 0
 
 -- one that took the last slot took some time
-last_above : (usual : ℕ) (number : Flight → ℕ) (m : ℕ) (f : Flight) → cond (is_some (last_by usual number m f)) 1 0 ≤ unwrap_or (last_by usual number m f) 0
-last_above usual number m f = above usual f.start f.end (number f == m)
-  where
-    above : (usual start : ℕ) (e : End) (b : Bool) → cond (is_some (cond (nat_lt start (end_after usual start e) && b) (served_from start e) None)) 1 0 ≤ unwrap_or (cond (nat_lt start (end_after usual start e) && b) (served_from start e) None) 0
-    above usual start (Completed t) b = elim (nat_lt start t) as (λ v. nat_lt start t ≡ v → cond (is_some (cond (v && b) (Some (t - start)) None)) 1 0 ≤ unwrap_or (cond (v && b) (Some (t - start)) None) 0) [
-      | true ↦ λ is. let later = ltb-true start t is in elim b as (λ v. cond (is_some (cond v (Some (t - start)) None)) 1 0 ≤ unwrap_or (cond v (Some (t - start)) None) 0) [ true ↦ omega arith | false ↦ omega arith ]
-      | false ↦ λ _. omega arith
-    ] refl
-    above usual start (PutBack t) b = elim (nat_lt start t && b) as (λ v. cond (is_some (cond {A = Option ℕ} v None None)) 1 0 ≤ unwrap_or (cond {A = Option ℕ} v None None) 0) [ true ↦ omega arith | false ↦ omega arith ]
-    above usual start Unknown b = elim (nat_lt start (start + usual) && b) as (λ v. cond (is_some (cond {A = Option ℕ} v None None)) 1 0 ≤ unwrap_or (cond {A = Option ℕ} v None None) 0) [ true ↦ omega arith | false ↦ omega arith ]
+pub time_above : (usual start : ℕ) (e : End) (b : Bool) → cond (is_some (cond (nat_lt start (end_after usual start e) && b) (served_from start e) None)) 1 0 ≤ unwrap_or (cond (nat_lt start (end_after usual start e) && b) (served_from start e) None) 0
+time_above usual start (Completed t) b = elim (nat_lt start t) as (λ v. nat_lt start t ≡ v → cond (is_some (cond (v && b) (Some (t - start)) None)) 1 0 ≤ unwrap_or (cond (v && b) (Some (t - start)) None) 0) [
+  | true ↦ λ is. let later = ltb-true start t is in elim b as (λ v. cond (is_some (cond v (Some (t - start)) None)) 1 0 ≤ unwrap_or (cond v (Some (t - start)) None) 0) [ true ↦ omega arith | false ↦ omega arith ]
+  | false ↦ λ _. omega arith
+] refl
+time_above usual start (PutBack t) b = elim (nat_lt start t && b) as (λ v. cond (is_some (cond {A = Option ℕ} v None None)) 1 0 ≤ unwrap_or (cond {A = Option ℕ} v None None) 0) [ true ↦ omega arith | false ↦ omega arith ]
+time_above usual start Unknown b = elim (nat_lt start (start + usual) && b) as (λ v. cond (is_some (cond {A = Option ℕ} v None None)) 1 0 ≤ unwrap_or (cond {A = Option ℕ} v None None) 0) [ true ↦ omega arith | false ↦ omega arith ]
 
-last_sum : (usual : ℕ) (number : Flight → ℕ) (m : ℕ) (fs : List Flight) → length (filter_map (last_by usual number m) fs) ≤ sum (filter_map (last_by usual number m) fs)
-last_sum usual number m [] = omega arith
-last_sum usual number m (f ∷ fs) =
-    let rest = last_sum usual number m fs in
-    let one = last_above usual number m f in
-    one_more (last_by usual number m f) (filter_map (last_by usual number m) fs) one rest
+-- times that are each above 0 have a sum that is no less than their number
+pub sum_above : {X : Type 0} (h : X → Option ℕ) → ((x : X) → cond (is_some (h x)) 1 0 ≤ unwrap_or (h x) 0) → (xs : List X) → length (filter_map h xs) ≤ sum (filter_map h xs)
+sum_above h each [] = omega arith
+sum_above h each (x ∷ xs) = one_more (h x) (filter_map h xs) (each x) (sum_above h each xs)
   where
     one_more : (o : Option ℕ) (ts : List ℕ) → cond (is_some o) 1 0 ≤ unwrap_or o 0 → length ts ≤ sum ts → length (cons_option o ts) ≤ sum (cons_option o ts)
     one_more None ts one rest = rest
     one_more (Some t) ts one rest = omega (arith, sum_by-cons (λ n. n) t ts)
 
-mean_above : (sum count : ℕ) → 0 < count → 0 < sum → 1 ≤ mean_of sum count
+pub mean_above : (sum count : ℕ) → 0 < count → 0 < sum → 1 ≤ mean_of sum count
 mean_above sum count some above =
     let is = mean_of-some sum count some in
     let one : 1 ≤ (sum + (count - 1)) / count = le-div 1 (sum + (count - 1)) count some (omega arith) in
     omega arith
 
-length_above : (ts : List ℕ) → 0 < sum ts → 0 < length ts
+pub length_above : (ts : List ℕ) → 0 < sum ts → 0 < length ts
 length_above [] above = absurd (omega arith)
 length_above (t ∷ ts) above = omega arith
 
@@ -147,7 +142,7 @@ service_above fs above = elim (nat_le ENOUGH (length (last_times fs))) as (λ b.
       let enough : 16 ≤ length (last_times fs) = leb-true ENOUGH (length (last_times fs)) is in
       let number : Flight → ℕ = λ g. in_flight fs g.start in
       let same = last_times-by (usual_time fs) number (most fs) fs in
-      let bound = last_sum (usual_time fs) number (most fs) fs in
+      let bound = sum_above (last_by (usual_time fs) number (most fs)) (λ (f : Flight). time_above (usual_time fs) f.start f.end (number f == most fs)) fs in
       let long = ap length same in
       let whole = ap sum same in
       mean_above (sum (last_times fs)) (length (last_times fs)) (omega arith) (omega (arith, bound, long, whole, enough))

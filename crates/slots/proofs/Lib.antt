@@ -9,3 +9,4 @@ pub mod SpanLemmas
 pub mod LevelLemmas
 pub mod SweepLemmas
 pub mod SpareLemmas
+pub mod WindowLemmas

@@ -4,3 +4,4 @@ pub mod Gaps
 pub mod Bounds
 pub mod Changes
 pub mod Tallies
+pub mod Windowed

@@ -60,8 +60,8 @@ pub fn slots_of(
     }))
 }
 
-// The service time: by the flights that took the last slot if they are enough, or else by all.
-fn service_by(last: Total, all: Total) -> u64
+/// The service time: by the flights that took the last slot if they are enough, or else by all.
+pub fn service_by(last: Total, all: Total) -> u64
     ensures { result ≡ (if nat_le ENOUGH last.count then mean_of last.sum last.count else mean_of all.sum all.count) }
 {
     if last.count >= ENOUGH {

@@ -2,8 +2,10 @@
 
 ghost use Rattle.std.specs.Prelude.{◌≡◌, ◌==◌, ◌+◌, ◌-◌, ◌*◌, ◌/◌, ◌^◌, ◌<◌, ◌≤◌, ◌&&◌, ℕ, max, nat_lt, length, map, filter, sum, is_some, unwrap_or, if◌then◌else◌};
 ghost use Rattle.slots.specs.Flights.{Flight, end_after, last_time, mean_of, takes_last_by, time_of_service, times_of_service};
+ghost use Rattle.slots.specs.Windowed.{last_times_of};
 
 use crate::flight::{End, Flight};
+use crate::numbered::NumberedFlight;
 use crate::spans::span_held;
 
 /// The sum of times, and how many there are.
@@ -74,6 +76,19 @@ pub fn total_of_last(flights: &[Flight], flying: &[u32], usual: u64, most: u32) 
     for (place, flight) in flights.iter().enumerate() {
         let takes_last = flying[place] == most;
         total = total.with(last_time(usual, flight, takes_last));
+    }
+    total
+}
+
+/// Those of the flights of a window that took the last slot, by their numbers.
+pub fn total_of_last_numbered(flights: &[NumberedFlight], most: u32) -> Total
+    requires few { length flights.now < 2 ^ 32 }
+    ensures sum { result.sum ≡ sum (last_times_of most flights.now) }
+    ensures count { result.count ≡ length (last_times_of most flights.now) }
+{
+    let mut total = Total::none();
+    for each in flights {
+        total = total.with(last_time(0, &each.flight, each.number == most));
     }
     total
 }

@@ -1,5 +1,4 @@
 use Rattle.std.proofs.Common.{arith}
-use Rattle.slots.specs.Changes.{changes_in}
 use Rattle.slots.proofs.SpareLemmas.{changes_in_rounds, spare_tally}
 use Rattle.slots.proofs.spare.spare_starts.Goals as goal
 

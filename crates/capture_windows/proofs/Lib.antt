@@ -1,0 +1,6 @@
+mod ListLemmas
+mod LawLemmas
+mod GroupLemmas
+mod ManyLemmas
+mod RoomLemmas
+mod WindowLemmas

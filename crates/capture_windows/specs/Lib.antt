@@ -1,0 +1,6 @@
+pub mod Attempts
+pub mod Devices
+pub mod Counted
+pub mod Windows
+pub mod Laws
+pub mod Progress

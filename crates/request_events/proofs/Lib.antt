@@ -1,0 +1,7 @@
+pub mod FirstLemmas
+pub mod KeyLemmas
+pub mod KnownLemmas
+pub mod LawLemmas
+pub mod OrderLemmas
+pub mod PlaceLemmas
+pub mod TableLemmas

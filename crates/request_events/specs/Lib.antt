@@ -1,0 +1,7 @@
+pub mod Attempts
+pub mod Events
+pub mod Keys
+pub mod Laws
+pub mod Spots
+pub mod States
+pub mod Tables

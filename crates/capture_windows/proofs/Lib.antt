@@ -1,4 +1,5 @@
 mod ListLemmas
+mod KnownLemmas
 mod LawLemmas
 mod GroupLemmas
 mod ManyLemmas

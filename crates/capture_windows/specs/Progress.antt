@@ -1,8 +1,8 @@
 -- how far windows were taken
-use Rattle.std.specs.Prelude.{ℕ, ◌≤◌, Bool, List, length, All, IfSome, nat_lt}
+use Rattle.std.specs.Prelude.{◌≡◌, ℕ, ◌<◌, ◌≤◌, Bool, List, length, slice_index_or, All, IfSome, nat_lt}
 use Rattle.std.specs.List.{list_all}
 use Rattle.capture_windows.specs.Attempts.{Attempt}
-use Rattle.capture_windows.specs.Devices.{KnownDevice}
+use Rattle.capture_windows.specs.Devices.{KnownDevice, WindowRoom}
 
 -- where the next window begins, and its round 1; how long a round is; and what is known of each device
 pub record Progress : Type 0 where
@@ -18,6 +18,14 @@ HasService k = IfSome k.known.service (λ t. 1 ≤ t)
 pub record IsProgress (p : Progress) : Type 0 where
   pub length : 1 ≤ p.length
   pub service : All HasService p.devices
+
+-- what is known of a device once a window has shown its slots
+abbrev pub known_after : KnownDevice → WindowRoom → KnownDevice
+known_after k room = record k { known = record { in_flight = room.slots.in_flight; service = room.slots.service } }
+
+-- the same of each device
+abbrev pub AreKnownAfter : List KnownDevice → List WindowRoom → List KnownDevice → Type 0
+AreKnownAfter old rooms new = (device : ℕ) (k : KnownDevice) (room : WindowRoom) → device < length old → slice_index_or new device k ≡ known_after (slice_index_or old device k) (slice_index_or rooms device room)
 
 -- each attempt is of one of so many devices
 abbrev pub are_known : ℕ → List Attempt → Bool

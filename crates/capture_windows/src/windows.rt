@@ -2,7 +2,7 @@
 
 ghost use Rattle.std.specs.Prelude.{◌≡◌, ◌≤◌, All, IfSome, IfOk, OnErr, OnOk, IsTrue, length};
 ghost use Rattle.capture_windows.specs.Attempts.{Attempt};
-ghost use Rattle.capture_windows.specs.Progress.{are_known};
+ghost use Rattle.capture_windows.specs.Progress.{AreKnownAfter, are_known};
 ghost use Rattle.capture_windows.specs.Devices.{KnownDevice as Device, WindowRoom as TheRoom};
 
 use crate::attempt::Attempt;
@@ -52,7 +52,7 @@ impl Windows {
     ghost use Rattle.capture_windows.specs.Attempts.{requests_in, waiting_at};
     ghost use Rattle.capture_windows.specs.Devices.{going_on};
     ghost use Rattle.capture_windows.specs.Windows.{AreRooms};
-    ghost use Rattle.capture_windows.specs.Progress.{IsProgress};
+    ghost use Rattle.capture_windows.specs.Progress.{AreKnownAfter};
 
     /// None was taken yet. The first one has all that was started before its end, and its round 1 begins at that time. Rounds have so many
     /// nanoseconds.
@@ -120,6 +120,7 @@ impl Windows {
         ensures begin { OnOk result (self.new.begin ≡ self.new.from) }
         ensures length { self.new.length ≡ self.old.length }
         ensures devices { length self.new.devices ≡ length self.old.devices }
+        ensures known { IfOk result (λ w. AreKnownAfter self.old.devices w.taken.rooms.items self.new.devices) }
         ensures err { OnErr result (self.new ≡ self.old) }
     {
         if count == 0 || count > MAX_WINDOW_ROUNDS {
@@ -170,6 +171,7 @@ fn learn(devices: &mut [KnownDevice], rooms: &[WindowRoom])
     requires service { All (λ (r : TheRoom). IfSome r.slots.service (λ t. 1 ≤ t)) rooms.now }
     requires before { All (λ (k : Device). IfSome k.known.service (λ t. 1 ≤ t)) devices.old }
     ensures size { length devices.new ≡ length devices.old }
+    ensures known { AreKnownAfter devices.old rooms.now devices.new }
     ensures service { All (λ (k : Device). IfSome k.known.service (λ t. 1 ≤ t)) devices.new }
 {
     for number in 0..devices.len() {

@@ -9,7 +9,7 @@ unknown = record { known = record { in_flight = 0; service = None }; depth = Non
 pub learn-requires-clause-service : goal.learn-requires-clause-service
 learn-requires-clause-service c =
     rw (c.deref-2.ensures.value) (λ k d lt.
-        let rooms = c.in_ok-taken.ensures.rooms in
-        let size = rooms.size in
-        let room = rooms.each k unknown d (omega (arith, lt)) in
-        room.service)
+    let rooms = c.in_ok-taken.ensures.rooms in
+    let size = rooms.size in
+    let room = rooms.each k unknown d (omega (arith, lt)) in
+    room.service)

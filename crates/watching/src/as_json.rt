@@ -1,0 +1,134 @@
+//! A line of JSON for each window.
+
+use crate::costs::Costs;
+use crate::sums::{LEVELS, Sums};
+use crate::window::Window;
+use recording_file::NameKind;
+use serde::{Described, Serialize, Serializer};
+use std::alloc::{AllocError, Global};
+use std::collections::BTreeMap;
+use wording::nanoseconds;
+
+// A window and its sums, with those of each device and driver.
+#[derive(Drop)]
+struct Line<'a> {
+    window: Window<'a>,
+    sums: &'a Sums,
+    devices: BTreeMap<String, Costs>,
+    drivers: BTreeMap<String, Costs>,
+    ranks: Vec<[u32; 3]>,
+}
+
+impl Described for Line<'_> {}
+
+impl Serialize for Line<'_> {
+    fn serialize<S: Serializer>(&self, out: &mut S) -> Result<(), S::Error> {
+        let window = self.window;
+        out.begin_map(None)?;
+        let number = if window.is_all { "windows" } else { "window" };
+        put(out, number, &window.number)?;
+        if let Some(host) = window.host {
+            put(out, "host", &host)?;
+        }
+        put(out, "from_ns", &window.from)?;
+        put(out, "to_ns", &window.until)?;
+        put(out, "round_ns", &nanoseconds(window.round))?;
+        put(out, "rounds", &window.rounds)?;
+        put(out, "refused_lines", &window.refused)?;
+        put(out, "carried", &window.carried)?;
+        out.flatten_next()?;
+        self.sums.whole().serialize(out)?;
+        put_named(out, "devices", &self.devices)?;
+        put_named(out, "drivers", &self.drivers)?;
+        self.put_levels(out)?;
+        self.put_blame(out)?;
+        out.end_map()
+    }
+}
+
+impl Line<'_> {
+    // The costs of each run level that has requests, and what 50 and 99 of a hundred and 999 of a thousand of its waits don't pass.
+    fn put_levels<S: Serializer>(&self, out: &mut S) -> Result<(), S::Error> {
+        out.key("levels")?;
+        out.begin_seq(None)?;
+        for level in 0..LEVELS {
+            let costs = self.sums.of_level(level);
+            if costs.requests > 0
+                && let Some([p50, p99, p999]) = self.ranks.get(level as usize)
+            {
+                out.begin_map(None)?;
+                put(out, "level", &level)?;
+                out.flatten_next()?;
+                costs.serialize(out)?;
+                put(out, "p50", p50)?;
+                put(out, "p99", p99)?;
+                put(out, "p999", p999)?;
+                out.end_map()?;
+            }
+        }
+        out.end_seq()
+    }
+
+    fn put_blame<S: Serializer>(&self, out: &mut S) -> Result<(), S::Error> {
+        out.key("blame")?;
+        out.begin_seq(None)?;
+        for (pair, blame) in self.sums.pairs() {
+            out.begin_map(None)?;
+            put(out, "waiting", &pair.waiting)?;
+            put(out, "by", &pair.by)?;
+            put(out, "waited", &blame.waited)?;
+            put(out, "avoidable", &blame.avoidable)?;
+            put(out, "cost", &blame.cost)?;
+            out.end_map()?;
+        }
+        out.end_seq()
+    }
+}
+
+fn put_named<S: Serializer>(
+    out: &mut S,
+    key: &str,
+    list: &BTreeMap<String, Costs>,
+) -> Result<(), S::Error> {
+    out.key(key)?;
+    out.begin_seq(None)?;
+    for (name, costs) in list {
+        out.begin_map(None)?;
+        put(out, "name", name)?;
+        out.flatten_next()?;
+        costs.serialize(out)?;
+        out.end_map()?;
+    }
+    out.end_seq()
+}
+
+fn put<S: Serializer, T: Serialize>(out: &mut S, key: &str, value: &T) -> Result<(), S::Error> {
+    out.key(key)?;
+    value.serialize(out)
+}
+
+/// A line without its line feed: the number of the window, or how many there are; the host; from when to when it is; how long a round is,
+/// and how many there are; what was left out; what its requests waited before it, in weighted rounds; and what they waited in it: all, by
+/// device, by driver, by run level with ranks of the waits in rounds, and who waited for whom.
+pub fn window_json(alloc: Global, window: Window<'_>, sums: &Sums) -> Result<String, AllocError> {
+    let mut ranks = Vec::new(alloc);
+    for level in 0..LEVELS {
+        let of = Some(level);
+        ranks.push([
+            sums.rank(of, 500)?,
+            sums.rank(of, 990)?,
+            sums.rank(of, 999)?,
+        ])?;
+    }
+    let line = Line {
+        window,
+        sums,
+        devices: sums.by_name(NameKind::Device)?,
+        drivers: sums.by_name(NameKind::Driver)?,
+        ranks,
+    };
+    match serde_json::to_string(alloc, &line) {
+        Ok(text) => Ok(text),
+        Err(_) => Err(AllocError),
+    }
+}

@@ -11,9 +11,13 @@ from dataclasses import dataclass
 STATISTICS = ("CPU", "Total (", "Throughput", "Events (", "Skips", "Input file", "Read", "PC Read", "IO unplugs")
 IGNORED = ("G", "I", "A", "X", "m", "P", "U", "UT", "B", "S")
 MAX_DRIVERS, MAX_DEVICES, MAX_LINE, MAX_TIMES = 256, 32, 65_536, 16
-NEEDED, COLUMNS = {"arrival", "start", "device"}, ("arrival", "start", "end", "device", "driver", "priority")
+NEEDED, COLUMNS = {"arrival", "start", "device"}, ("arrival", "start", "end", "device", "driver", "priority", "size", "comm", "pid", "cgroup")
 COUNTS = ("never_started", "without_arrival", "without_start", "requests_without_starts", "other_devices", "other_times",
-          "refused_lines", "without_partner", "dropped_runs")
+          "refused_lines", "without_partner", "dropped_runs", "early_starts")
+# By how much the clocks of two processors may differ.
+SKEW = 100_000
+# The kernel's events that say something of a request, as blkparse calls them.
+EVENTS = {"bio_queue": "Q", "bio_backmerge": "M", "bio_frontmerge": "F", "rq_merge": "M", "rq_issue": "D", "rq_requeue": "R", "rq_complete": "C"}
 BLANKS = " \t\r\n\f"
 
 
@@ -35,6 +39,10 @@ class Request:
     place: int | None = None
     size: int = 0
     kept: bool = True
+    # Whether its arrival was seen; its priority by direction, and by its I/O class if that is known.
+    seen: bool = True
+    by_direction: int = 896
+    by_class: int | None = None
 
 
 def must(so: bool) -> None:
@@ -52,13 +60,6 @@ def time_of(text: str, digits: int) -> int:
     if match is None:
         raise Refused
     return number(str(int(match[1]) * 10**digits + int("0" + (match[2] or "")[:digits].ljust(digits, "0"))))
-
-
-def pick(requests: list[Request], device: str, place: int | None) -> Request | None:
-    for at, request in enumerate(requests):
-        if (request.device, request.place) == (device, place):
-            return requests.pop(at)
-    return None
 
 
 def takes(pick: str, name: str) -> str | None:
@@ -79,6 +80,7 @@ class Options:
     hosts: tuple[tuple[str, int, int], ...] = ()
     rated: tuple[tuple[str, int], ...] = ()
     depths: tuple[tuple[str, int], ...] = ()
+    driver_by: str | None = None
 
     def listed(self, name: str) -> str | None:
         return next((it for pick in self.picks if (it := takes(pick, name)) is not None), None) if self.picks else name
@@ -143,22 +145,138 @@ class Reader:
         return taken
 
 
-class Blkparse(Reader):
+@dataclass
+class Event:
+    """What an event says of a request at a place: of a flush None, of a command of SG_IO -1."""
+    device: str
+    action: str
+    flags: str
+    place: int | None
+    end: int
+    process: str
+    pid: str
+    by_class: int | None = None
+
+
+class Events(Reader):
+    """Attempts are one list, in the order in which they came."""
+
     def __init__(self, options: Options) -> None:
         super().__init__(options)
         self.last = 0
-        self.waiting: list[Request] = []
-        self.running: list[Request] = []
-        # Those that arrived before the capture began, from their starts on: in flight, and all.
-        self.early: list[Request] = []
-        self.early_all: list[Request] = []
+        self.attempts: list[Request] = []
         self.starts: set[str] = set()
         self.ended: list[str] = []
 
+    def parse(self, line: str) -> tuple[int, Event | None] | None:
+        """The time of a line, and what it says of a request. None if it isn't an event."""
+        raise NotImplementedError
+
     def take(self, line: str) -> None:
+        parsed = self.parse(line)
+        if parsed is None:
+            return
+        time, event = parsed
+        must(time + SKEW >= self.last)
+        self.last = time = max(time, self.last)
+        if event is None:
+            return
+        listed = self.options.listed(event.device)
+        if listed is None:
+            self.counts["other_devices"] += event.action == "Q"
+            return
+        self.name(listed, self.devices, 2**64)
+        self.starts |= {event.device} if event.action == "D" else set()
+        if event.place is None and event.action == "C" and not event.flags.startswith("F"):
+            event.place = -1
+        if event.place == -1:
+            self.counts["without_arrival"] += event.action != "Q"
+        else:
+            self.apply(time, event)
+
+    @staticmethod
+    def direction_priority(flags: str) -> int:
+        if flags[0] in "RW" and "M" not in flags:
+            if flags[0] == "R":
+                return 896 if "A" in flags else 640
+            return 896 if "S" in flags or "F" in flags else 1152
+        return 1279 if flags[0] == "D" else 640
+
+    def waiting(self, device: str, place: int | None) -> Request | None:
+        return next((it for it in self.attempts if it.kept and it.started is None and (it.device, it.place) == (device, place)), None)
+
+    def running(self, device: str, place: int | None) -> list[Request]:
+        """Those that are in flight there, the one that was started first before the others."""
+        own = [it for it in self.attempts if it.started is not None and it.completed is None and it.put_back is None]
+        return sorted((it for it in own if (it.device, it.place) == (device, place)), key=lambda it: it.started or 0)
+
+    def apply(self, time: int, event: Event) -> None:
+        waiting, running = self.waiting(event.device, event.place), self.running(event.device, event.place)
+        if event.action == "Q":
+            self.arrive(time, event, [it for it in running if not it.seen and (it.started or 0) >= time - SKEW])
+        elif event.action == "F":
+            behind = self.waiting(event.device, event.end) if event.place is not None and event.end != event.place else None
+            if behind is not None:
+                behind.place = event.place
+                if waiting is not None:
+                    waiting.kept = False
+        elif event.action == "M" and waiting is not None:
+            waiting.kept = False
+        elif event.action == "D":
+            if waiting is None:
+                self.counts["without_arrival"] += 1
+                waiting = Request(time, event.device, "", 0, place=event.place, seen=False)
+                self.attempts += [waiting] if event.place is not None else []
+            waiting.started, waiting.size, waiting.by_class = time, event.end - (event.place or 0), event.by_class
+        elif event.action == "R":
+            self.counts["without_arrival"] += not running or not running[0].seen
+            for first in running[:1]:
+                first.retried = first.put_back = time
+                if first.seen:
+                    self.attempts.append(Request(time, event.device, first.driver, 0, place=event.place, by_direction=first.by_direction))
+        elif event.action == "C":
+            for first in running[:1]:
+                first.completed = time
+            if not running and waiting is not None:
+                waiting.kept = False
+                self.ended.append(event.device)
+            else:
+                self.counts["without_arrival"] += not running or not running[0].seen
+
+    def arrive(self, time: int, event: Event, early: list[Request]) -> None:
+        driver = event.pid if self.options.driver_by == "pid" else event.process
+        if time < self.options.end:
+            self.name(driver, self.drivers, MAX_DRIVERS)
+        by_direction = self.direction_priority(event.flags)
+        if not early:
+            self.attempts.append(Request(time, event.device, driver, 0, place=event.place, by_direction=by_direction))
+            return
+        first = early[0]
+        first.seen, first.arrival, first.driver, first.by_direction = True, first.started or 0, driver, by_direction
+        first.size = event.end - (event.place or 0)
+        self.counts["without_arrival"] -= 1
+        self.counts["early_starts"] += 1
+
+    @property
+    def early_all(self) -> list[Request]:
+        """Those whose arrival wasn't seen."""
+        return [it for it in self.attempts if not it.seen]
+
+    def all(self) -> list[Request]:
+        seen = [it for it in self.attempts if it.seen and it.kept]
+        for it in seen:
+            it.priority = self.priority(it.driver, it.by_class, it.by_direction)
+        idle = [r.device for r in seen if r.device not in self.starts]
+        self.counts["requests_without_starts"] = len(idle) + sum(d not in self.starts for d in self.ended)
+        self.counts["without_start"] = sum(d in self.starts for d in self.ended)
+        return [r for r in seen if r.device in self.starts]
+
+
+class Blkparse(Events):
+    def parse(self, line: str) -> tuple[int, Event | None] | None:
         text = line.strip(BLANKS)
         if not text or (not text[0].isdigit() and text.startswith(STATISTICS)):
-            return
+            return None
         head = re.match(r"(\d+,\d+)\s+(\d+)\s+(\d+)\s+(\d+\.\d{9})\s+(\d+)\s+(\S+)\s+(\S+)(.*)", text, re.A | re.S)
         if head is None:
             raise Refused
@@ -166,23 +284,12 @@ class Blkparse(Reader):
             number(digits)
         time, action, rest = time_of(head[4], 9), head[6], head[8]
         must(action in IGNORED or action in "QMFDRC")
-        if action not in IGNORED:
-            process = re.search(r"\[(.*)\]", rest, re.S)
-            must(re.fullmatch("[A-Z]+", head[7]) is not None and process is not None)
-            place, end = self.extent(rest)
-        must(time >= self.last)
-        self.last = time
-        listed = self.options.listed(head[1])
-        if action not in IGNORED and listed is None:
-            self.counts["other_devices"] += action == "Q"
-        elif action not in IGNORED and listed is not None:
-            self.name(listed, self.devices, 2**64)
-            self.starts |= {head[1]} if action == "D" else set()
-            if place is None and action == "C" and not head[7].startswith("F"):
-                place = -1
-            self.counts["without_arrival"] += place == -1 and action != "Q"
-            if place != -1:
-                self.apply(time, head[1], action, head[7], place, end, process[1] if process else "")
+        if action in IGNORED:
+            return time, None
+        process = re.search(r"\[(.*)\]", rest, re.S)
+        must(re.fullmatch("[A-Z]+", head[7]) is not None and process is not None)
+        place, end = self.extent(rest)
+        return time, Event(head[1], action, head[7], place, end, process[1] if process else "", head[5])
 
     @staticmethod
     def extent(rest: str) -> tuple[int | None, int]:
@@ -194,60 +301,39 @@ class Blkparse(Reader):
         must(kind in ("+", "(", "[") and (kind != "+" or len(words) > 2))
         return {"(": (-1, 0), "[": (None, 0)}.get(kind) or (sector, sector + number(words[2]))
 
+
+class Tracepoints(Events):
+    def parse(self, line: str) -> tuple[int, Event | None] | None:
+        text = line.strip(BLANKS)
+        if not text or text.startswith(("#", "cpus=", "CPU ", "version =")):
+            return None
+        head = re.match(r"(.*?)\[(\d+)\]((?:\s*\S*[^:\s]){0,2}?)\s*([^\s:]+):\s+(\S+):(.*)", text, re.A | re.S)
+        if head is None:
+            raise Refused
+        must("." in head[4])
+        time, kind = time_of(head[4], 9), head[5].removeprefix("block:").removeprefix("block_")
+        if kind not in EVENTS or not head[5].removeprefix("block:").startswith("block_"):
+            return time, None
+        form = {"b": r"", "rq_i": r"(\d+)\s+\((.*?)\)\s+", "rq_m": r"(\d+)\s+\((.*?)\)\s+"}.get(kind[:1] if kind[0] == "b" else kind[:4], r"()\((.*?)\)\s+")
+        rest = re.fullmatch(r"\s*(\d+,\d+)\s+([A-Z]+)\s+" + (form or "()()") + r"(\d+)\s+\+\s+(\d+)\s+(?:([^\s\[]\S*)\s+)?\[(.*)\][^\]]*", head[6], re.A | re.S)
+        if rest is None:
+            raise Refused
+        device, flags, size, command, sector, sectors, ioprio, process = rest.groups()
+        place: int | None = number(sector)
+        if command or (number(sectors) == 0 and int(size or 0) > 0):
+            place = -1
+        elif number(sectors) == 0:
+            place = None
+        task = re.sub(r"\s*\(.*\)$", "", head[1].strip(BLANKS))
+        pid = re.search(r"\d*$", task, re.A)
+        return time, Event(device, EVENTS[kind], flags, place, number(sector) + number(sectors), process, pid[0] if pid else "", self.by_class(ioprio))
+
     @staticmethod
-    def by_direction(flags: str) -> int:
-        if flags[0] in "RW" and "M" not in flags:
-            if flags[0] == "R":
-                return 896 if "A" in flags else 640
-            return 896 if "S" in flags or "F" in flags else 1152
-        return 1279 if flags[0] == "D" else 640
-
-    def apply(self, time: int, device: str, action: str, flags: str, place: int | None, end: int, process: str) -> None:
-        if action == "Q":
-            priority = self.priority(process, None, self.by_direction(flags))
-            self.waiting.append(self.add(Request(time, device, process, priority, place=place), time < self.options.end))
-            return
-        if action == "F":
-            behind = pick(self.waiting, device, end) if place is not None else None
-            if behind is None:
-                return
-            behind.place = place
-            merged = pick(self.waiting, device, place)
-            self.waiting.append(behind)
-        else:
-            merged = pick(self.waiting, device, place) if action == "M" else None
-        if merged is not None:
-            merged.kept = False
-        if action in "MF":
-            return
-        request = pick(self.waiting if action == "D" else self.running, device, place)
-        early = pick(self.early, device, place) if request is None and action != "D" else None
-        if early is not None:
-            self.counts["without_arrival"] += 1
-            early.completed, early.put_back = (time, None) if action == "C" else (None, time)
-        elif request is not None and action == "D":
-            request.started, request.size = time, end - (place or 0)
-            self.running.append(request)
-        elif request is not None and action == "C":
-            request.completed = time
-        elif request is not None and action == "R":
-            request.retried = request.put_back = time
-            self.waiting.append(self.add(Request(time, device, request.driver, request.priority, place=place), False))
-        elif request is None:
-            if action == "D":
-                self.early.append(Request(time, device, process, 0, started=time, place=place))
-                self.early_all.append(self.early[-1])
-            ended = pick(self.waiting, device, place) if action == "C" else None
-            self.counts["without_arrival"] += ended is None
-            if ended is not None:
-                ended.kept = False
-                self.ended.append(device)
-
-    def all(self) -> list[Request]:
-        idle = [r.device for r in self.requests if r.kept and r.device not in self.starts]
-        self.counts["requests_without_starts"] = len(idle) + sum(d not in self.starts for d in self.ended)
-        self.counts["without_start"] = sum(d in self.starts for d in self.ended)
-        return [r for r in self.requests if r.kept and r.device in self.starts]
+    def by_class(ioprio: str | None) -> int | None:
+        match = re.fullmatch(r"(rt|be|idle|0x[1-3]),[^,]*,([0-7])(?:,.*)?", ioprio or "")
+        if match is None:
+            return None
+        return {"rt": 0, "be": 768, "idle": 1024, "0x1": 0, "0x2": 768, "0x3": 1024}[match[1]] + 32 * int(match[2])
 
 
 class Fio(Reader):
@@ -346,22 +432,71 @@ class Csv(Reader):
         row = [cell.strip(BLANKS) for cell in next(csv.reader([line]), [])]
         if not self.header:
             must(NEEDED <= set(row) and all(row.count(name) < 2 for name in COLUMNS))
+            must({"comm": {"comm", "driver"}, "pid": {"pid"}, "cgroup": {"cgroup"}, None: set(row)}[self.options.driver_by] & set(row) != set())
             self.header, self.others = row, [name for name in row if name not in COLUMNS]
             return
         must(len(row) == len(self.header))
         cells = dict(zip(self.header, row))
         arrival = time_of(cells["arrival"], self.digits)
         started, completed = (time_of(cells[n], self.digits) if cells.get(n) else None for n in ("start", "end"))
-        message, driver = number(cells.get("priority") or "896"), cells.get("driver") or "driver"
-        must(message <= 1279 and (started is None or started >= arrival))
+        message, by = number(cells.get("priority") or "896"), self.options.driver_by
+        size = number(cells.get("size") or "0")
+        names = {None: ("driver", "comm"), "comm": ("comm", "driver"), "pid": ("pid",), "cgroup": ("cgroup",)}[by]
+        driver = next((cells[name] for name in names if cells.get(name)), "driver")
+        must(message <= 1279 and (started is None or started + SKEW >= arrival))
         must(completed is None or (started is not None and completed >= started))
-        if self.options.listed(cells["device"]) is None:
+        self.row(Request(arrival, cells["device"], driver, self.priority(driver, message, 896), started, completed, size=size))
+
+    def row(self, request: Request) -> None:
+        """A request of a table."""
+        if self.options.listed(request.device) is None:
             self.counts["other_devices"] += 1
-        else:
-            taken = self.options.begin <= arrival < self.options.end
-            self.add(Request(arrival, cells["device"], driver, self.priority(driver, message, 896), started, completed), taken)
+            return
+        is_early = request.started is not None and request.started < request.arrival
+        request.arrival = min(request.arrival, request.started if request.started is not None else request.arrival)
+        taken = self.options.begin <= request.arrival < self.options.end
+        self.counts["early_starts"] += is_early and taken
+        self.add(request, taken)
 
     def all(self) -> list[Request]:
         if not self.header:
             raise Refused("camxpt: a column is missing: arrival, start and device are needed\n")
+        return self.requests
+
+
+class Biosnoop(Csv):
+    """Requests when they end. One that arrived before time 0 of the capture holds a slot, and is no request of it."""
+
+    def __init__(self, options: Options) -> None:
+        super().__init__(options, 6)
+        self.early_all: list[Request] = []
+
+    def take(self, line: str) -> None:
+        words = line.split()
+        if not words:
+            return
+        if words[0] == "TIME(s)":
+            must("QUE(ms)" in words)
+            return
+        must(len(words) >= 8)
+        pid, device, flags, sector, size, queued, latency = words[-7:]
+        completed, took = time_of(words[0], 9), time_of(latency, 6)
+        wait = time_of(queued.removeprefix("-"), 6) * (-1 if queued.startswith("-") else 1)
+        number(sector)
+        must(wait >= -SKEW)
+        start, comm = completed - took, " ".join(words[1:-7])
+        arrival = start - wait
+        driver = (pid if self.options.driver_by == "pid" else comm) or "driver"
+        must(re.fullmatch("[A-Z]+", flags) is not None)
+        request = Request(max(arrival, 0), device, driver, self.priority(driver, None, Events.direction_priority(flags)), max(start, 0), completed, size=number(size))
+        if min(arrival, start) >= 0:
+            self.row(request)
+        elif self.options.listed(device) is None:
+            self.counts["other_devices"] += 1
+        else:
+            self.counts["without_arrival"] += 1
+            self.name(self.options.listed(device) or "", self.devices, 2**64)
+            self.early_all.append(request)
+
+    def all(self) -> list[Request]:
         return self.requests

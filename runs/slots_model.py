@@ -266,10 +266,10 @@ def cap_rows(kind: str, caps: list[list[int]], openings: list[int]) -> list[tupl
 
 def capture_of(reader: imported_model.Reader, **more: dict) -> Capture:
     """The capture that a finished reader has read."""
-    options, is_blkparse = reader.options, isinstance(reader, imported_model.Blkparse)
+    options, are_events = reader.options, isinstance(reader, imported_model.Events)
     requests = [(request, request.device, request.arrival) for request in reader.found]
-    requests += [(request, options.listed(request.device), None) for request in (reader.early_all if is_blkparse else [])]
-    attempts = [Request(device, r.driver, r.priority, arrival, r.started, r.completed, r.put_back, is_blkparse and r.place is None)
+    requests += [(request, options.listed(request.device), None) for request in getattr(reader, "early_all", [])]
+    attempts = [Request(device, r.driver, r.priority, arrival, r.started, r.completed, r.put_back, are_events and r.place is None)
                 for r, device, arrival in requests]
     hosts = {name: (adapter, openings) for name, adapter, openings in options.hosts}
     given = {"rated": dict(options.rated), "depths": dict(options.depths), **more}

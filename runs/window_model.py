@@ -96,13 +96,14 @@ def default_round(capture: Capture, time: int) -> tuple[int, str] | None:
 
 
 class Windows:
-    """The windows of a capture, in rounds of `span` ns, each of at most so many rounds and requests. Round 1 begins with the first arrival
-    that is taken."""
+    """The windows of a capture, in rounds of `span` ns, each of at most `rounds` and `requests`. Round 1 begins at `begin`, or with the first
+    arrival of what is started. As many windows as `whole` says have all their rounds, also after the last start."""
 
-    def __init__(self, capture: Capture, span: int, rounds: int, requests: int = MAX_REQUESTS) -> None:
+    def __init__(self, capture: Capture, span: int, rounds: int, requests: int = MAX_REQUESTS, begin: int | None = None, whole: int = 0) -> None:
         self.capture, self.span, self.taken = capture, span, capture.taken()
-        self.begin = self.taken[0].arrival
-        self.fill(self.borders(min(rounds, MAX_ROUNDS), requests))
+        self.begin = self.taken[0].arrival if begin is None else begin
+        rounds = min(rounds, MAX_ROUNDS)
+        self.fill(self.borders(rounds, requests, whole * rounds))
 
     def fill(self, borders: list[tuple[int, int]]) -> None:
         """Makes the windows of these first and last rounds."""
@@ -125,11 +126,11 @@ class Windows:
     def at(self, time: int) -> int:
         return 1 + (time - self.begin) // self.span
 
-    def borders(self, rounds: int, requests: int) -> list[tuple[int, int]]:
-        """The first and the last round of each window: all its rounds, up to the last start, and before a round with which it would have too
-        many requests."""
+    def borders(self, rounds: int, requests: int, least: int) -> list[tuple[int, int]]:
+        """The first and the last round of each window: all its rounds, up to the last start or the least end, and before a round with which it
+        would have too many requests."""
         started = collections.Counter(self.at(request.start) for request in self.taken)
-        first, end, found = 1, max(started), []
+        first, end, found = 1, max(least, *started), []
         while first <= end:
             last, count = first - 1, 0
             while last < min(first + rounds - 1, end) and count + started[last + 1] <= requests:
@@ -186,8 +187,11 @@ class Windows:
         return device
 
     def service(self, name: str, window: Window, at: dict[int, int], most: int) -> tuple[int | None, int]:
-        """The service time of a device, over the completions in the window, or else as in the window before; and how many took the last slot."""
-        done = [request for request in self.capture.of(name) if request.completion is not None and window.begin <= request.completion < window.end]
+        """The service time of a device, over the completions in the window of what was started in it or in the one before, or else as in the
+        window before; and how many took the last slot."""
+        done = [request for request in self.capture.of(name) if request.completion is not None and request.completion < window.end
+                and (window.place == 0 or window.begin <= request.completion)
+                and request.start is not None and self.own(request).place >= window.place - 1]
         times = slots_model.times_of_service(done)
         took = slots_model.times_of_service([it for it in done if it.start is not None and it.start < it.completion and at.get(it.start) == most])
         if any(times):
@@ -286,14 +290,17 @@ def within(spans: list[tuple[int, int]], window: Window) -> list[tuple[int, int]
 
 def recording(rounds: int, devices: list[str], adapter_of, caps: Caps, requests: list[tuple], span: int) -> str:
     """The text of a recording of these devices and requests."""
-    adapters = list(dict.fromkeys(map(adapter_of, devices)))
+    used = list(map(adapter_of, devices))
+    # Those that options name come by their numbers, with the ones between them, and then the one of the other devices.
+    adapters = [*range(1 + max([it for it in used if it is not None], default=-1)), *([None] if None in used else [])]
     rows = [("camrecord2", *"abcdefg"), ("unit", *imported_recording.exact(span)), ("rounds", rounds)]
     rows += [("weight", *row) for row in imported_recording.WEIGHTS]
-    rows += [("sim", caps.adapter_openings[adapter], "") for adapter in adapters]
+    rows += [("sim", caps.adapter_openings.get(adapter, 1) if adapter in used else 1, "") for adapter in adapters]
     on = [adapters.index(adapter_of(name)) for name in devices]
     rows += [("dev", adapter, on[:number].count(adapter), 0, caps.openings[devices[number]]) for number, adapter in enumerate(on)]
     rows += slots_model.cap_rows("dev", [caps.devices[name] for name in devices], [caps.openings[name] for name in devices])
-    rows += slots_model.cap_rows("sim", [caps.adapters[name] for name in adapters], [caps.adapter_openings[name] for name in adapters])
+    rows += slots_model.cap_rows("sim", [caps.adapters[it] if it in used else [1] * rounds for it in adapters],
+                                 [caps.adapter_openings[it] if it in used else 1 for it in adapters])
     return imported_recording.spelled(rows + requests)
 
 

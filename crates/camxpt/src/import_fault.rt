@@ -1,20 +1,40 @@
 //! Why a capture isn't imported.
 
 use crate::import_span::{Seconds, Typed};
+use crate::word_fault::WordFault;
 use cam_types::ConfigError;
 use capture::{CaptureFault, short_within, span_nanoseconds};
 use capture_file::{LineFault, ReadFault};
+use capture_windows::WindowFault;
 use recording_file::Span;
 use std::alloc::AllocError;
 use std::{fmt, io};
 use thiserror::Error;
+
+/// An option that names a file or a folder to write to.
+#[derive(Clone, Copy, Debug, PartialEq, Eq)]
+pub enum FileOption {
+    Out,
+    Keep,
+    Prometheus,
+}
+
+impl fmt::Display for FileOption {
+    fn fmt<W: fmt::Write>(&self, f: &mut fmt::Formatter<W>) -> fmt::Result {
+        f.write_str(match self {
+            FileOption::Out => "out",
+            FileOption::Keep => "keep",
+            FileOption::Prometheus => "prometheus",
+        })
+    }
+}
 
 /// Why a capture isn't imported. Its text is the line on standard error, after the program's name and, of a file, the file's.
 #[derive(Clone, Copy, Debug, Error)]
 pub enum ImportFault {
     /// An option whose word hasn't its form, or contradicts another one, and how.
     #[error("{0}")]
-    NamedArgument(&'static str),
+    NamedArgument(WordFault),
     /// A file that can't be opened: its place among the files.
     #[error("cannot open")]
     CannotOpen(usize, io::Error),
@@ -42,6 +62,15 @@ pub enum ImportFault {
     /// A device had so many requests in flight, more than the `--depth` of this place gives it slots.
     #[error("{1} were in flight")]
     TooFewSlots(usize, u32),
+    /// No window is taken of these requests.
+    #[error("{0}")]
+    Window(WindowFault),
+    /// So many requests were started by the end of no window.
+    #[error("{0} requests wait to be started, and at most 1,048,576 are kept: take fewer by --device, or a longer window by --window")]
+    TooManyOpen(usize),
+    /// A file can't be written that this option asks for, and the system's reason.
+    #[error("--{0}: cannot write: {1}")]
+    CannotWrite(FileOption, io::Error),
     /// More adapters than there may be.
     #[error("9 adapters, and a recording has at most 8: devices without --host share one after the last that is given")]
     Config,
@@ -61,10 +90,12 @@ impl ImportFault {
             ImportFault::NamedArgument(_) => 2,
             ImportFault::CannotOpen(_, _)
             | ImportFault::File(_, ReadFault::ReadFailed(_))
+            | ImportFault::CannotWrite(_, _)
             | ImportFault::WriteFailed(_) => 4,
             ImportFault::File(_, ReadFault::OutOfMemory)
             | ImportFault::Files(LineFault::OutOfMemory)
             | ImportFault::Capture(CaptureFault::OutOfMemory)
+            | ImportFault::Window(WindowFault::OutOfMemory)
             | ImportFault::OutOfMemory(_) => 5,
             _ => 3,
         }

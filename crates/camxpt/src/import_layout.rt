@@ -8,7 +8,6 @@ use crate::import_options::ImportOptions;
 use crate::import_words::{Host, value_of};
 use cam_types::{Adapter, Config, Device, standard_weights};
 use capture::{Capture, shared_openings};
-use capture_file::Capture as Read;
 use recording_file::{Name, NameKind};
 use std::alloc::{AllocError, Global};
 
@@ -118,10 +117,14 @@ pub fn config_of(
 }
 
 /// The names of drivers and devices, but for those that no recording can have.
-pub fn names_of(alloc: Global, read: &Read) -> Result<Vec<Name>, AllocError> {
+pub fn names_of(
+    alloc: Global,
+    drivers: &[String],
+    devices: &[String],
+) -> Result<Vec<Name>, AllocError> {
     let mut names = Vec::new(alloc);
-    add_names(alloc, &mut names, NameKind::Driver, &read.drivers)?;
-    add_names(alloc, &mut names, NameKind::Device, &read.devices)?;
+    add_names(alloc, &mut names, NameKind::Driver, drivers)?;
+    add_names(alloc, &mut names, NameKind::Device, devices)?;
     Ok(names)
 }
 

@@ -32,8 +32,13 @@ pub fn note_on(
     }
 }
 
-// The name of a file, a line's number, and at most 200 bytes of the line, whose control characters are escaped.
-fn line_note(alloc: Global, name: &str, number: u64, line: &[u8]) -> Result<String, AllocError> {
+/// The name of a file, a line's number, and at most 200 bytes of the line, whose control characters are escaped.
+pub fn line_note(
+    alloc: Global,
+    name: &str,
+    number: u64,
+    line: &[u8],
+) -> Result<String, AllocError> {
     let shown = shown_name(alloc, title(name))?;
     let front = line.get(..MAX_SHOWN).unwrap_or(line);
     let text = String::from_utf8_lossy(alloc, front)?;

@@ -2,8 +2,8 @@
 
 use crate::import_fault::ImportFault;
 use crate::import_words::{
-    DEPTH, DRIVER, Host, Kind, RATED, check_files, hosts_of, kind_of, numbers_of, picks_of,
-    priorities_of, round_of, time_of,
+    DEPTH, DRIVER, Host, Kind, RATED, check_files, driver_by, hosts_of, is_sorted, kind_of,
+    numbers_of, picks_of, priorities_of, round_of, time_of,
 };
 use capture_file::Options;
 use clap::ArgMatches;
@@ -25,8 +25,6 @@ pub struct ImportOptions {
     pub ratings: Vec<(String, u32)>,
     /// The slots of devices, by their names.
     pub depths: Vec<(String, u32)>,
-    /// Whether lines that aren't of their form are counted and left out.
-    pub is_lenient: bool,
 }
 
 impl ImportOptions {
@@ -37,20 +35,22 @@ impl ImportOptions {
     /// `NamedArgument` of a word that hasn't its form, or that contradicts an earlier one; `OutOfMemory`.
     pub fn of(alloc: Global, words: &ArgMatches<'_>) -> Result<ImportOptions, ImportFault> {
         check_files(words)?;
+        let kind = kind_of(words)?;
         Ok(ImportOptions {
-            kind: kind_of(words)?,
+            kind,
             round: round_of(words)?,
             taken: Options {
                 priorities: priorities_of(words)?,
+                driver_by: driver_by(words, kind)?,
                 drivers: numbers_of(alloc, words, &DRIVER)?,
                 devices: picks_of(alloc, words)?,
                 from_time: time_of(words, "from-time")?,
                 to_time: time_of(words, "to-time")?,
+                is_sorted: is_sorted(words),
             },
             hosts: hosts_of(alloc, words)?,
             ratings: numbers_of(alloc, words, &RATED)?,
             depths: numbers_of(alloc, words, &DEPTH)?,
-            is_lenient: words.get_flag("lenient"),
         })
     }
 }

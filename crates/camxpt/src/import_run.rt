@@ -8,19 +8,24 @@ use crate::import_layout::{adapters_of, config_of, devices_of, names_of};
 use crate::import_note::note_on;
 use crate::import_options::ImportOptions;
 use crate::import_warnings::{
-    SeenSlots, tell_counts, tell_rooms, warn_columns, warn_missing, warn_read, warn_recorded,
+    SeenSlots, tell_counts, tell_early, tell_refused, tell_rooms, warn_columns, warn_missing,
+    warn_read, warn_recorded,
 };
-use crate::import_words::{Kind, value_of};
+use crate::import_words::{Kind, tolerance_of, value_of, window_of};
 use crate::note::{tell_note, tell_of};
 use crate::output::standard_output;
 use crate::source::{STANDARD_INPUT, is_verbose};
+use crate::window_files::WindowFiles;
+use crate::window_reader::{WindowReader, WindowSink};
+use crate::word_fault::WordFault;
 use crate::words::{count, word_at};
 use cam_types::Watched;
 use capture::{
     Capture, CaptureFault, longest_round, short_from, shortest_round, span_nanoseconds, usual_round,
 };
 use capture_file::{
-    BlkparseReader, Capture as Read, CsvReader, FioReader, LineReader, ReadFault, read_lines,
+    Capture as Read, EventForm, EventReader, FioReader, LineReader, ReadFault, Refused,
+    SortedReader, TableForm, TableReader, Tolerance, read_lines,
 };
 use clap::ArgMatches;
 use recording_file::{Recording, Span, WriteFault, write_recording};
@@ -33,18 +38,29 @@ use std::rt::Runtime;
 /// Reads the files that the words name and prints their recording. Says on standard error what a round is, what was counted, and
 /// what to beware of; or why there is none, and what helps to find that if it is asked for.
 pub fn import<R: Runtime + AllocGlobal>(rt: &R, words: &ArgMatches<'_>) -> ExitCode {
-    let mut line = Vec::new(rt.alloc());
-    let Err(fault) = imported(rt, words, &mut line) else {
-        return ExitCode::SUCCESS;
-    };
-    match subject(words, &fault) {
-        Some(name) => tell_of(rt, name, &fault),
+    let tolerance = tolerance_of(words, Tolerance::Few);
+    let mut refused = Refused::new(rt.alloc(), tolerance.unwrap_or(Tolerance::Few));
+    match tolerance.and_then(|_| imported(rt, words, &mut refused)) {
+        Ok(()) => ExitCode::SUCCESS,
+        Err(fault) => tell_fault(rt, words, &fault, refused.text()),
+    }
+}
+
+/// Says why a capture isn't imported, and what helps to find that if it is asked for. If a line is refused, `line` has it.
+pub fn tell_fault<R: Runtime + AllocGlobal>(
+    rt: &R,
+    words: &ArgMatches<'_>,
+    fault: &ImportFault,
+    line: &[u8],
+) -> ExitCode {
+    match subject(words, fault) {
+        Some(name) => tell_of(rt, name, fault),
         None => {
             let _ = rt.eprintln(format_args!("camxpt: {fault}"));
         }
     }
     if is_verbose(rt, words) {
-        tell_note(rt, note_on(rt.alloc(), words, &fault, &line));
+        tell_note(rt, note_on(rt.alloc(), words, fault, line));
     }
     ExitCode::from(fault.status())
 }
@@ -60,19 +76,18 @@ fn subject<'w>(words: &'w ArgMatches<'_>, fault: &ImportFault) -> Option<&'w str
     }
 }
 
-// If a line is refused, `line` has it.
 fn imported<R: Runtime + AllocGlobal>(
     rt: &R,
     words: &ArgMatches<'_>,
-    line: &mut Vec<u8>,
+    refused: &mut Refused,
 ) -> Result<(), ImportFault> {
     let options = ImportOptions::of(rt.alloc(), words)?;
-    let files = Files {
-        rt,
-        words,
-        is_lenient: options.is_lenient,
-    };
-    let read = files.read(&options, line)?;
+    let files = Files { rt, words };
+    if let Some(window) = window_of(words)? {
+        let mut sink = WindowFiles::new(rt, words.get_str("out").unwrap_or("."))?;
+        return files.read_windows(&options, window, &mut sink, refused);
+    }
+    let read = files.read(&options, refused)?;
     warn_missing(rt, &options, &read);
     warn_columns(rt, &read);
     let round = round_for(rt.alloc(), options.round, &read)?;
@@ -80,6 +95,8 @@ fn imported<R: Runtime + AllocGlobal>(
     let rooms = rooms_of(rt.alloc(), &options, &capture, &read)?;
     let recording = recording_of(rt.alloc(), &options, &capture, &rooms.spare, &read)?;
     tell_counts(rt, round, &recording, &read.counts);
+    tell_refused(rt, words, refused);
+    tell_early(rt, &read.counts);
     tell_rooms(rt, &options, &read.devices, &rooms.seen);
     warn_read(rt, round, &read);
     warn_recorded(rt, &options, &read, &recording);
@@ -91,61 +108,126 @@ fn imported<R: Runtime + AllocGlobal>(
     }
 }
 
-// The files of a capture, by their names. A line that is refused is left out if they are read leniently.
+/// The files of a capture, by their names.
 #[derive(Drop)]
-struct Files<'r, 'w, 'a, R> {
-    rt: &'r R,
-    words: &'w ArgMatches<'a>,
-    is_lenient: bool,
+pub struct Files<'r, 'w, 'a, R> {
+    pub rt: &'r R,
+    pub words: &'w ArgMatches<'a>,
 }
 
 impl<R: Runtime + AllocGlobal> Files<'_, '_, '_, R> {
     // Reads all of them.
-    fn read(&self, options: &ImportOptions, line: &mut Vec<u8>) -> Result<Read, ImportFault> {
+    fn read(&self, options: &ImportOptions, refused: &mut Refused) -> Result<Read, ImportFault> {
         let alloc = self.rt.alloc();
         match options.kind {
-            Kind::Blkparse => {
-                let mut reader = BlkparseReader::new(alloc, &options.taken);
-                self.read_each(&mut reader, line)?;
-                Ok(reader.finish()?)
-            }
-            Kind::Csv(unit) => {
-                let mut reader = CsvReader::new(alloc, &options.taken, unit);
-                self.read_each(&mut reader, line)?;
-                Ok(reader.finish()?)
-            }
+            Kind::Blkparse => self.read_events(options, EventForm::Blkparse, refused),
+            Kind::Tracepoints => self.read_events(options, EventForm::Tracepoints, refused),
+            Kind::Csv(unit) => self.read_table(options, TableForm::Csv(unit), refused),
+            Kind::Biosnoop => self.read_table(options, TableForm::Biosnoop, refused),
             Kind::Fio => {
                 let mut reader = FioReader::new(alloc, &options.taken);
-                self.read_logs(&mut reader, line)?;
+                self.read_logs(&mut reader, refused)?;
                 Ok(reader.finish()?)
             }
         }
+    }
+
+    fn read_events(
+        &self,
+        options: &ImportOptions,
+        form: EventForm,
+        refused: &mut Refused,
+    ) -> Result<Read, ImportFault> {
+        let mut reader = EventReader::new(self.rt.alloc(), &options.taken, form);
+        self.read_each(&mut reader, refused)?;
+        Ok(reader.finish()?)
+    }
+
+    fn read_table(
+        &self,
+        options: &ImportOptions,
+        form: TableForm,
+        refused: &mut Refused,
+    ) -> Result<Read, ImportFault> {
+        let mut reader = TableReader::new(self.rt.alloc(), &options.taken, form);
+        self.read_each(&mut reader, refused)?;
+        Ok(reader.finish()?)
+    }
+
+    /// Hands each window of the capture to the sink as soon as it is over, also what was read before a fault.
+    pub fn read_windows<S: WindowSink>(
+        &self,
+        options: &ImportOptions,
+        window: u64,
+        sink: &mut S,
+        refused: &mut Refused,
+    ) -> Result<(), ImportFault> {
+        let (alloc, taken) = (self.rt.alloc(), &options.taken);
+        match options.kind {
+            Kind::Blkparse => {
+                let reader = EventReader::new(alloc, taken, EventForm::Blkparse);
+                self.cut(options, window, reader, sink, refused)
+            }
+            Kind::Tracepoints => {
+                let reader = EventReader::new(alloc, taken, EventForm::Tracepoints);
+                self.cut(options, window, reader, sink, refused)
+            }
+            Kind::Csv(unit) => {
+                let reader = TableReader::new(alloc, taken, TableForm::Csv(unit));
+                self.cut(options, window, reader, sink, refused)
+            }
+            Kind::Biosnoop => Err(ImportFault::NamedArgument(WordFault::Ended)),
+            Kind::Fio => Err(ImportFault::NamedArgument(WordFault::Logs)),
+        }
+    }
+
+    fn cut<T: SortedReader + Drop, S: WindowSink>(
+        &self,
+        options: &ImportOptions,
+        window: u64,
+        reader: T,
+        sink: &mut S,
+        refused: &mut Refused,
+    ) -> Result<(), ImportFault> {
+        let mut cutting = WindowReader::new(self.rt.alloc(), options, window, reader, sink);
+        let read = self.read_each(&mut cutting, refused);
+        let finished = cutting.finish();
+        read?;
+        finished
     }
 
     fn read_each<T: LineReader>(
         &self,
         reader: &mut T,
-        line: &mut Vec<u8>,
+        refused: &mut Refused,
     ) -> Result<(), ImportFault> {
         for place in 0..count(self.words, "FILE") {
             let name = word_at(self.words, "FILE", place);
-            if !self.read_file(place, name, reader, line)? {
+            if reader.is_done() {
+                break;
+            }
+            if !self.read_file(place, name, reader, refused)? {
                 return Err(ImportFault::File(place, ReadFault::Empty));
             }
         }
-        Ok(())
+        not_too_many(refused)
     }
 
     // Reads fio's logs. A latency log of a job whose requests had no time to end is empty.
-    fn read_logs(&self, reader: &mut FioReader<'_>, line: &mut Vec<u8>) -> Result<(), ImportFault> {
+    fn read_logs(
+        &self,
+        reader: &mut FioReader<'_>,
+        refused: &mut Refused,
+    ) -> Result<(), ImportFault> {
         for place in 0..count(self.words, "FILE") {
             let name = word_at(self.words, "FILE", place);
             reader.begin_file(name)?;
             let may_be_empty = reader.may_be_empty();
-            if !self.read_file(place, name, reader, line)? && !may_be_empty {
+            if !self.read_file(place, name, reader, refused)? && !may_be_empty {
                 return Err(ImportFault::File(place, ReadFault::Empty));
             }
         }
+        not_too_many(refused)?;
         match reader.lacks_log() {
             None => Ok(()),
             Some(place) => Err(ImportFault::NoLatencyLog(place)),
@@ -158,20 +240,35 @@ impl<R: Runtime + AllocGlobal> Files<'_, '_, '_, R> {
         place: usize,
         name: &str,
         reader: &mut T,
-        line: &mut Vec<u8>,
+        refused: &mut Refused,
     ) -> Result<bool, ImportFault> {
-        let (rt, lenient) = (self.rt, self.is_lenient);
+        let rt = self.rt;
+        refused.begin_input(place);
         let done = if name == STANDARD_INPUT {
-            read_lines(rt.alloc(), &mut rt.reader(), lenient, reader, line)
+            read_lines(rt.alloc(), &mut rt.reader(), refused, reader)
         } else {
             match File::open(rt, name) {
-                Ok(mut file) => read_lines(rt.alloc(), &mut file, lenient, reader, line),
+                Ok(mut file) => read_lines(rt.alloc(), &mut file, refused, reader),
                 Err(error) => return Err(ImportFault::CannotOpen(place, error)),
             }
         };
         match done {
             Ok(has_text) => Ok(has_text),
+            Err(ReadFault::Line(_, _)) => {
+                not_too_many(refused)?;
+                Ok(true)
+            }
             Err(fault) => Err(ImportFault::File(place, fault)),
+        }
+    }
+}
+
+// The first line that was refused is a fault if more were than may be left out.
+fn not_too_many(refused: &Refused) -> Result<(), ImportFault> {
+    match refused.fault() {
+        None => Ok(()),
+        Some((place, number, fault)) => {
+            Err(ImportFault::File(place, ReadFault::Line(number, fault)))
         }
     }
 }
@@ -276,6 +373,6 @@ fn recording_of(
     let (devices, rated) = devices_of(alloc, options, capture, &read.devices)?;
     let (adapters, open) = adapters_of(alloc, &options.hosts, &read.devices, &devices)?;
     let config = config_of(alloc, &adapters, &devices)?;
-    let names = names_of(alloc, read)?;
+    let names = names_of(alloc, &read.drivers, &read.devices)?;
     Ok(capture.recording(alloc, &config, &rated, &open, spare, names)?)
 }

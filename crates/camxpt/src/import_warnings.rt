@@ -1,17 +1,30 @@
 //! What `import` says on standard error: what was counted, and what to beware of.
 
+use crate::import_note::line_note;
 use crate::import_options::ImportOptions;
 use crate::import_span::unit_word;
 use crate::import_words::value_of;
+use crate::note::tell_note;
+use crate::words::word_at;
 use cam_types::standard_weights;
 use capture::{longest_round, span_nanoseconds};
-use capture_file::{Capture as Read, Counts};
+use capture_file::{Capture as Read, Counts, Refused};
+use clap::ArgMatches;
 use recording_file::{PartKind, Recording, Span};
 use slots::Slots;
 use std::alloc::{AllocError, Global};
 use std::rt::Runtime;
 use views::shown_name;
 use wording::{Page, push_nanoseconds};
+
+/// Says which line was refused first, and why, if lines were left out.
+pub fn tell_refused<R: Runtime + AllocGlobal>(rt: &R, words: &ArgMatches<'_>, refused: &Refused) {
+    if let Some((place, number, fault)) = refused.first() {
+        let _ = rt.eprintln(format_args!("camxpt: the first line that was refused: {fault}"));
+        let name = word_at(words, "FILE", place);
+        tell_note(rt, line_note(rt.alloc(), name, number, refused.text()).ok());
+    }
+}
 
 /// Says what a round is, how many there are, and what was left out.
 pub fn tell_counts<R: Runtime>(rt: &R, round: Span, recording: &Recording, counts: &Counts) {
@@ -51,6 +64,16 @@ pub fn tell_counts<R: Runtime>(rt: &R, round: Span, recording: &Recording, count
         if count > 0 {
             let _ = rt.eprintln(format_args!("camxpt: left out: {count} {what}"));
         }
+    }
+}
+
+/// Says how many requests were started before they arrived, by the clocks of two processors.
+pub fn tell_early<R: Runtime>(rt: &R, counts: &Counts) {
+    let count = counts.early_starts;
+    if count > 0 {
+        let _ = rt.eprintln(format_args!(
+            "camxpt: {count} requests were started up to 100 us before they arrived, by another processor's clock: they waited 0"
+        ));
     }
 }
 

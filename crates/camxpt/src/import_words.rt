@@ -3,17 +3,14 @@
 use crate::import_fault::ImportFault;
 use crate::import_fault::ImportFault::NamedArgument;
 use crate::source::STANDARD_INPUT;
+use crate::word_fault::WordFault;
 use crate::words::{count, number_in, word_at};
 use cam_types::MAX_PRIORITY;
-use capture_file::{CsvTimeUnit as CsvUnit, DevicePick, Priorities};
+use capture::span_nanoseconds;
+use capture_file::{CsvTimeUnit as CsvUnit, DevicePick, DriverBy, Priorities, Tolerance};
 use clap::ArgMatches;
 use recording_file::{Span, TimeUnit};
 use std::alloc::{AllocError, Global};
-
-const HOST: &str =
-    "--host takes DEVICE=ADAPTER:OPENINGS, an adapter from 0 to 7 and 1 to 255 openings";
-
-const ROUND: &str = "--round takes a number from 1 on and ns, us, ms or s, as 10ms";
 
 /// An option by which names get numbers.
 pub struct Numbering {
@@ -22,8 +19,8 @@ pub struct Numbering {
     least: u32,
     most: u32,
     // What it takes, and what is wrong if a name comes twice.
-    form: &'static str,
-    twice: &'static str,
+    form: WordFault,
+    twice: WordFault,
 }
 
 /// The drivers with a priority of their own.
@@ -31,8 +28,8 @@ pub const DRIVER: Numbering = Numbering {
     id: "driver",
     least: 0,
     most: MAX_PRIORITY,
-    form: "--driver takes NAME=PRIORITY, a priority from 0 to 1279",
-    twice: "--driver names a driver twice",
+    form: WordFault::Driver,
+    twice: WordFault::DriverTwice,
 };
 
 /// The devices that are rated at a number of openings.
@@ -40,8 +37,8 @@ pub const RATED: Numbering = Numbering {
     id: "rated",
     least: 1,
     most: 255,
-    form: "--rated takes DEVICE=OPENINGS, 1 to 255",
-    twice: "--rated names a device twice",
+    form: WordFault::Rated,
+    twice: WordFault::RatedTwice,
 };
 
 /// The devices whose slots are given.
@@ -49,14 +46,16 @@ pub const DEPTH: Numbering = Numbering {
     id: "depth",
     least: 1,
     most: 65_535,
-    form: "--depth takes DEVICE=SLOTS, 1 to 65535",
-    twice: "--depth names a device twice",
+    form: WordFault::Depth,
+    twice: WordFault::DepthTwice,
 };
 
 /// What kind of text the files are.
 #[derive(Clone, Copy)]
 pub enum Kind {
     Blkparse,
+    Tracepoints,
+    Biosnoop,
     Fio,
     Csv(CsvUnit),
 }
@@ -77,7 +76,7 @@ pub fn check_files(words: &ArgMatches<'_>) -> Result<(), ImportFault> {
         }
     }
     if inputs > 1 {
-        return Err(NamedArgument("only one FILE can be standard input"));
+        return Err(NamedArgument(WordFault::OneInput));
     }
     Ok(())
 }
@@ -89,13 +88,15 @@ pub fn kind_of(words: &ArgMatches<'_>) -> Result<Kind, ImportFault> {
         Some("ms") => CsvUnit::Milliseconds,
         Some("us") => CsvUnit::Microseconds,
         Some("ns") => CsvUnit::Nanoseconds,
-        Some(_) => return Err(NamedArgument("--unit takes ns, us, ms or s")),
+        Some(_) => return Err(NamedArgument(WordFault::Unit)),
     };
     match words.get_str("from") {
         Some("blkparse") => Ok(Kind::Blkparse),
+        Some("tracepoints") => Ok(Kind::Tracepoints),
+        Some("biosnoop") => Ok(Kind::Biosnoop),
         Some("fio") => Ok(Kind::Fio),
         Some("csv") => Ok(Kind::Csv(unit)),
-        _ => Err(NamedArgument("--from takes blkparse, fio or csv")),
+        _ => Err(NamedArgument(WordFault::From)),
     }
 }
 
@@ -103,7 +104,17 @@ pub fn kind_of(words: &ArgMatches<'_>) -> Result<Kind, ImportFault> {
 pub fn round_of(words: &ArgMatches<'_>) -> Result<Option<Span>, ImportFault> {
     match words.get_str("round") {
         None => Ok(None),
-        Some(word) => Ok(Some(span(word).ok_or(NamedArgument(ROUND))?)),
+        Some(word) => Ok(Some(span(word).ok_or(NamedArgument(WordFault::Round))?)),
+    }
+}
+
+/// How long a window is, in nanoseconds, if windows are asked for.
+pub fn window_of(words: &ArgMatches<'_>) -> Result<Option<u64>, ImportFault> {
+    match words.get_str("window") {
+        None => Ok(None),
+        Some(word) => Ok(Some(span_nanoseconds(span(word).ok_or(NamedArgument(
+            WordFault::Window,
+        ))?))),
     }
 }
 
@@ -121,13 +132,46 @@ pub fn span(word: &str) -> Option<Span> {
     (count > 0).then_some(Span { count, unit })
 }
 
+/// Whether the lines have to be in the order of time: where windows are taken, or reading ends before the files do.
+pub fn is_sorted(words: &ArgMatches<'_>) -> bool {
+    let ends_early = words.get_str("window").is_some() || words.get_str("to-time").is_some();
+    !words.get_flag("unsorted") && ends_early
+}
+
+/// What a driver is in text of a kind, if that is given.
+pub fn driver_by(words: &ArgMatches<'_>, kind: Kind) -> Result<Option<DriverBy>, ImportFault> {
+    let by = match words.get_str("driver-by") {
+        None => return Ok(None),
+        Some("comm") => DriverBy::Comm,
+        Some("pid") => DriverBy::Pid,
+        Some("cgroup") => DriverBy::Cgroup,
+        Some(_) => return Err(NamedArgument(WordFault::DriverBy)),
+    };
+    match kind {
+        Kind::Fio => Err(NamedArgument(WordFault::Jobs)),
+        Kind::Csv(_) => Ok(Some(by)),
+        _ if by == DriverBy::Cgroup => Err(NamedArgument(WordFault::Cgroup)),
+        _ => Ok(Some(by)),
+    }
+}
+
+/// Which of the lines that are refused are left out; `usual` if the words don't say.
+pub fn tolerance_of(words: &ArgMatches<'_>, usual: Tolerance) -> Result<Tolerance, ImportFault> {
+    match (words.get_flag("lenient"), words.get_flag("strict")) {
+        (true, true) => Err(NamedArgument(WordFault::Tolerance)),
+        (true, false) => Ok(Tolerance::Lenient),
+        (false, true) => Ok(Tolerance::Strict),
+        (false, false) => Ok(usual),
+    }
+}
+
 /// Where priorities come from.
 pub fn priorities_of(words: &ArgMatches<'_>) -> Result<Priorities, ImportFault> {
     match words.get_str("priority") {
         None | Some("by-class") => Ok(Priorities::Class),
         Some("by-direction") => Ok(Priorities::Direction),
         Some("flat") => Ok(Priorities::Flat),
-        Some(_) => Err(NamedArgument("--priority takes by-class, by-direction or flat")),
+        Some(_) => Err(NamedArgument(WordFault::Priority)),
     }
 }
 
@@ -165,7 +209,7 @@ pub fn picks_of(alloc: Global, words: &ArgMatches<'_>) -> Result<Vec<DevicePick>
         let word = word_at(words, "device", place);
         picks.push(match word.rsplit_once('=') {
             None => DevicePick::Name(String::from_str(alloc, word)?),
-            Some((_, "")) => return Err(NamedArgument("--device takes NAME or PATTERN=NAME")),
+            Some((_, "")) => return Err(NamedArgument(WordFault::Pick)),
             Some((pattern, name)) => DevicePick::Pattern {
                 pattern: String::from_str(alloc, pattern)?,
                 name: String::from_str(alloc, name)?,
@@ -180,12 +224,12 @@ pub fn hosts_of(alloc: Global, words: &ArgMatches<'_>) -> Result<Vec<(String, Ho
     let mut hosts = Vec::new(alloc);
     for place in 0..count(words, "host") {
         let word = word_at(words, "host", place);
-        let (name, host) = host_in(word).ok_or(NamedArgument(HOST))?;
+        let (name, host) = host_in(word).ok_or(NamedArgument(WordFault::Host))?;
         if value_of(&hosts, name).is_some() {
-            return Err(NamedArgument("--host names a device twice"));
+            return Err(NamedArgument(WordFault::HostTwice));
         }
         if contradicts(&hosts, host) {
-            return Err(NamedArgument("--host gives an adapter two numbers of openings"));
+            return Err(NamedArgument(WordFault::Adapter));
         }
         hosts.push((String::from_str(alloc, name)?, host))?;
     }
@@ -221,7 +265,7 @@ pub fn time_of(words: &ArgMatches<'_>, id: &str) -> Result<Option<u64>, ImportFa
         None => Ok(None),
         Some(word) => match capture_file::time_of(word.as_bytes(), CsvUnit::Seconds.nanoseconds()) {
             Some(time) => Ok(Some(time)),
-            None => Err(NamedArgument("--from-time and --to-time take seconds, as 1.5")),
+            None => Err(NamedArgument(WordFault::Time)),
         },
     }
 }

@@ -36,8 +36,13 @@ mod sweep_run;
 mod sweep_words;
 mod trace_run;
 mod view;
+mod watch_run;
 mod what_if_run;
+mod window_cut;
+mod window_files;
+mod window_reader;
 mod word;
+mod word_fault;
 mod words;
 
 fn main(rt: HostRuntime) -> ExitCode {

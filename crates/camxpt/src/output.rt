@@ -55,6 +55,14 @@ pub fn standard_output<R: Print>(rt: &R) -> Output<io::Printer<'_, R>> {
     }
 }
 
+/// A file, to which nothing was written yet.
+pub fn file_output<W>(device: W) -> Output<W> {
+    Output {
+        device,
+        failed: None,
+    }
+}
+
 /// Writes a text.
 pub fn print<W: Write>(out: &mut Output<W>, text: &str) -> Result<(), Failure> {
     match write_whole(&mut Watched::new(&mut *out), text.as_bytes()) {

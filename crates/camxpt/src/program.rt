@@ -18,6 +18,7 @@ use crate::subcommands::command;
 use crate::sweep_run::sweep_script;
 use crate::trace_run::TraceRun;
 use crate::view::{View, range_of};
+use crate::watch_run::watch;
 use crate::what_if_run::WhatIfRun;
 use crate::words::{check_numbers, word_at, words};
 use audit_report::AuditFault;
@@ -192,6 +193,7 @@ fn obey_words<R: Runtime + AllocGlobal + Threads + Wait + Sync>(
         "sweep" => sweep_script(rt, words, on_terminal),
         "completions" => complete(rt, words.get_str("SHELL").unwrap_or("")),
         "import" => Ok(import(rt, words)),
+        "watch" => Ok(watch(rt, words)),
         _ => over_input(rt, on_terminal),
     }
 }

@@ -50,6 +50,94 @@ const SCRIPT: NamedArgument = NeededWord(
     "What the drivers do and the lanes answer; - is standard input",
 );
 
+const FROM: NamedArgument = NeededText(
+    "from",
+    "KIND",
+    "What the files are: blkparse, tracepoints (of perf script, trace-cmd report or the kernel), biosnoop, fio or csv",
+);
+
+const ROUND: NamedArgument = Text(
+    "round",
+    "TIME",
+    "How long a round is, as 10ms; if it is left out, the mean time between starts of the busiest device, but at most half of the mean wait",
+);
+
+const WINDOW: NamedArgument = Text(
+    "window",
+    "TIME",
+    "How long a window is, as 10s; if it is left out, import makes one recording of all, and watch takes 10s",
+);
+
+const UNIT: NamedArgument = Text(
+    "unit",
+    "UNIT",
+    "The unit of times in CSV: ns, us, ms or s; s if it is left out",
+);
+
+const PRIORITY: NamedArgument = Text(
+    "priority",
+    "HOW",
+    "Where priorities come from: by-class, by-direction or flat; by-class if it is left out",
+);
+
+const DRIVER: NamedArgument = Texts(
+    "driver",
+    "NAME=PRIORITY",
+    "The priority of all requests of a process or job",
+);
+
+const DRIVER_BY: NamedArgument = Text(
+    "driver-by",
+    "WHAT",
+    "What a driver is: a comm (the name of a process), a pid, or a cgroup in CSV; the name that the input has if it is left out",
+);
+
+const DEVICE: NamedArgument = Texts(
+    "device",
+    "PICK",
+    "A device to take, or PATTERN=NAME for all that match, as one; * stands for any characters; all if it is left out",
+);
+
+const HOST: NamedArgument = Texts(
+    "host",
+    "NAME=ADAPTER:OPENINGS",
+    "The adapter of a device, from 0 to 7, and how many requests that adapter takes in a round; what its devices take together if it is left out",
+);
+
+const RATED: NamedArgument = Texts(
+    "rated",
+    "NAME=OPENINGS",
+    "How many requests a device takes in a round, where it isn't measured",
+);
+
+const DEPTH: NamedArgument = Texts(
+    "depth",
+    "NAME=SLOTS",
+    "How many requests a device can have in flight; as many as it had at most if it is left out",
+);
+
+const FROM_TIME: NamedArgument = Text(
+    "from-time",
+    "SECONDS",
+    "Leaves out what arrives before this time of the capture",
+);
+
+const TO_TIME: NamedArgument = Text(
+    "to-time",
+    "SECONDS",
+    "Leaves out what arrives at this time of the capture or later",
+);
+
+const STRICT: NamedArgument = Flag(
+    "strict",
+    "Refuses the first line that isn't of its form, where import leaves out one in a thousand, and watch all",
+);
+
+const UNSORTED: NamedArgument = Flag(
+    "unsorted",
+    "Reads all of the files first, in whatever order of time their lines are",
+);
+
 /// A subcommand.
 pub(crate) struct Subcommand {
     /// Its name.
@@ -194,7 +282,7 @@ const VIEWS: [Subcommand; 8] = [
 ];
 
 // Those that make an input, and completions; the help has them after the others.
-const MAKERS: [Subcommand; 9] = [
+const MAKERS: [Subcommand; 10] = [
     Subcommand {
         name: "sim",
         about: "Runs a script on one thread and prints the trace, and on standard error how the run ended",
@@ -267,64 +355,76 @@ const MAKERS: [Subcommand; 9] = [
     },
     Subcommand {
         name: "import",
-        about: "Prints the recording of a capture by blktrace or fio, or of a CSV file with named columns",
+        about: "Prints the recording of a capture by blktrace, perf, trace-cmd, biosnoop or fio, or of a CSV file with named columns",
         example: "Example: camxpt import --from blkparse --round 10ms examples/mixed.blkparse > recording.csv",
         words: &[
-            NeededText("from", "KIND", "What the files are: blkparse, fio or csv"),
+            FROM,
+            ROUND,
+            UNIT,
+            PRIORITY,
+            DRIVER,
+            DRIVER_BY,
+            DEVICE,
+            HOST,
+            RATED,
+            DEPTH,
+            FROM_TIME,
+            TO_TIME,
+            WINDOW,
             Text(
-                "round",
-                "TIME",
-                "How long a round is, as 10ms; if it is left out, the mean time between starts of the busiest device, but at most half of the mean wait",
+                "out",
+                "DIR",
+                "The folder to which a recording of each window is written; this one if it is left out",
             ),
-            Text(
-                "unit",
-                "UNIT",
-                "The unit of times in CSV: ns, us, ms or s; s if it is left out",
-            ),
-            Text(
-                "priority",
-                "HOW",
-                "Where priorities come from: by-class, by-direction or flat; by-class if it is left out",
-            ),
-            Texts(
-                "driver",
-                "NAME=PRIORITY",
-                "The priority of all requests of a process or job",
-            ),
-            Texts(
-                "device",
-                "PICK",
-                "A device to take, or PATTERN=NAME for all that match, as one; * stands for any characters; all if it is left out",
-            ),
-            Texts(
-                "host",
-                "NAME=ADAPTER:OPENINGS",
-                "The adapter of a device, from 0 to 7, and how many requests that adapter takes in a round; what its devices take together if it is left out",
-            ),
-            Texts(
-                "rated",
-                "NAME=OPENINGS",
-                "How many requests a device takes in a round, where it isn't measured",
-            ),
-            Texts(
-                "depth",
-                "NAME=SLOTS",
-                "How many requests a device can have in flight; as many as it had at most if it is left out",
-            ),
-            Text(
-                "from-time",
-                "SECONDS",
-                "Leaves out what arrives before this time of the capture",
-            ),
-            Text(
-                "to-time",
-                "SECONDS",
-                "Leaves out what arrives at this time of the capture or later",
-            ),
+            UNSORTED,
             Flag(
                 "lenient",
-                "Counts lines that are refused and leaves them out",
+                "Counts lines that are refused and leaves them out, however many there are",
             ),
+            STRICT,
+            Words("FILE", "The files of the capture; - is standard input"),
+        ],
+    },
+    Subcommand {
+        name: "watch",
+        about: "Prints what waiting cost in each window of a running capture, or of a long one, and how much of it could have been avoided",
+        example: "Example: camxpt watch --from blkparse --window 1s examples/mixed.blkparse",
+        words: &[
+            FROM,
+            WINDOW,
+            ROUND,
+            UNIT,
+            PRIORITY,
+            DRIVER,
+            DRIVER_BY,
+            DEVICE,
+            HOST,
+            RATED,
+            DEPTH,
+            FROM_TIME,
+            TO_TIME,
+            Text(
+                "host-name",
+                "NAME",
+                "The name of the host, for the JSON and for Prometheus",
+            ),
+            Text(
+                "prometheus",
+                "FILE",
+                "Writes the sums so far to the file after each window, in Prometheus' text format",
+            ),
+            Text(
+                "keep",
+                "DIR",
+                "Writes the recording of each window to the folder",
+            ),
+            Number(
+                "keep-costliest",
+                "Keeps the recordings of the costliest N windows alone",
+            ),
+            UNSORTED,
+            STRICT,
+            JSON,
             Words("FILE", "The files of the capture; - is standard input"),
         ],
     },
@@ -349,7 +449,7 @@ pub(crate) fn makers() -> &'static [Subcommand] {
 /// The words that the program takes.
 pub fn command<'a>(alloc: Global) -> Result<Command<'a>, AllocError> {
     let mut command = Command::new(alloc, "camxpt")
-        .version("0.4.0")
+        .version("0.5.0")
         .about(
             "Audits traces of a CAM transport and recordings of any scheduler, and runs scripts that record traces. With no arguments it prints the summary of the audit of the trace or recording on standard input.",
         )

@@ -1,8 +1,9 @@
 //! The lines of blkparse's default text.
 
+use crate::block_event::{Action, Event, Extent, RequestEvent};
 use crate::line_fault::{Field, LineFault};
 use crate::number::number;
-use crate::words::{bracketed, next_word};
+use crate::words::{bracketed, check_flags, device_word, next_word};
 
 // How the lines of the statistics begin.
 const STATISTICS: [&str; 9] = [
@@ -17,51 +18,6 @@ const STATISTICS: [&str; 9] = [
     "IO unplugs",
 ];
 
-/// What an event says of a request.
-#[derive(Clone, Copy, PartialEq, Eq)]
-pub enum Action {
-    /// `Q`: it arrived.
-    Arrives,
-    /// `M`: it became the end of a request that waits.
-    JoinsEnd,
-    /// `F`: it became the front of a request that waits.
-    JoinsFront,
-    /// `D`: it was started.
-    Starts,
-    /// `R`: it was put back, and will be started again.
-    Returns,
-    /// `C`: it was completed.
-    Completes,
-}
-
-/// The sectors of a request.
-#[derive(Clone, Copy, PartialEq, Eq)]
-pub enum Extent {
-    /// From the first number on as many as the second says.
-    Sectors(u64, u64),
-    /// None: a flush.
-    Flush,
-    /// None: a command of `SG_IO`, which has no arrival.
-    Command,
-}
-
-/// An event of a request.
-#[derive(Clone, Copy)]
-pub struct RequestEvent<'a> {
-    pub device: &'a [u8],
-    pub action: Action,
-    pub flags: &'a [u8],
-    pub extent: Extent,
-    pub process: &'a [u8],
-}
-
-/// An event: its time, and what it says of a request, if it does.
-#[derive(Clone, Copy)]
-pub struct Event<'a> {
-    pub time: u64,
-    pub request: Option<RequestEvent<'a>>,
-}
-
 /// The event of a line. None if the line is blank or one of the statistics.
 pub fn event_of(line: &[u8]) -> Result<Option<Event<'_>>, LineFault> {
     let text = line.trim_ascii();
@@ -69,30 +25,30 @@ pub fn event_of(line: &[u8]) -> Result<Option<Event<'_>>, LineFault> {
         return Ok(None);
     }
     let (device, text) = device_word(text)?;
-    let (time, text) = stamp(text)?;
-    let request = request_of(device, text)?;
+    let (_, text) = number_word(text, Field::Cpu)?;
+    let (_, text) = number_word(text, Field::Sequence)?;
+    let (time, text) = time_word(text)?;
+    let (pid, text) = number_word(text, Field::Process)?;
+    let request = request_of(device, pid, text)?;
     Ok(Some(Event { time, request }))
 }
 
-// The cpu, the sequence number, the time and the process id, of which the time is wanted.
-fn stamp(text: &[u8]) -> Result<(u64, &[u8]), LineFault> {
-    let text = past_number(text, Field::Cpu)?;
-    let text = past_number(text, Field::Sequence)?;
-    let (time, text) = time_word(text)?;
-    Ok((time, past_number(text, Field::Process)?))
-}
-
-fn request_of<'a>(device: &'a [u8], text: &'a [u8]) -> Result<Option<RequestEvent<'a>>, LineFault> {
+fn request_of<'a>(
+    device: &'a [u8],
+    pid: &'a [u8],
+    text: &'a [u8],
+) -> Result<Option<RequestEvent<'a>>, LineFault> {
     let (action, text) = word(text)?;
     let (flags, text) = word(text)?;
     match action_of(action)? {
         None => Ok(None),
-        Some(action) => Ok(Some(request_event(device, action, flags, text)?)),
+        Some(action) => Ok(Some(request_event(device, pid, action, flags, text)?)),
     }
 }
 
 fn request_event<'a>(
     device: &'a [u8],
+    pid: &'a [u8],
     action: Action,
     flags: &'a [u8],
     text: &'a [u8],
@@ -106,15 +62,9 @@ fn request_event<'a>(
         flags,
         extent,
         process,
+        pid,
+        priority: None,
     })
-}
-
-fn check_flags(flags: &[u8]) -> Result<(), LineFault> {
-    if flags.iter().all(|byte| byte.is_ascii_uppercase()) {
-        Ok(())
-    } else {
-        Err(LineFault::NotAnEvent)
-    }
 }
 
 // Blank lines, and those of the statistics.
@@ -135,11 +85,11 @@ fn word(text: &[u8]) -> Result<(&[u8], &[u8]), LineFault> {
     next_word(text).ok_or(LineFault::NotAnEvent)
 }
 
-fn past_number(text: &[u8], field: Field) -> Result<&[u8], LineFault> {
+fn number_word(text: &[u8], field: Field) -> Result<(&[u8], &[u8]), LineFault> {
     let (digits, rest) = word(text)?;
     match number(digits) {
         None => Err(LineFault::BadNumber(field)),
-        Some(_) => Ok(rest),
+        Some(_) => Ok((digits, rest)),
     }
 }
 
@@ -161,22 +111,6 @@ fn seconds(digits: &[u8]) -> Option<u64> {
     number(digits.get(..point)?)?
         .checked_mul(1_000_000_000)?
         .checked_add(number(fraction)?)
-}
-
-// A major and a minor number.
-fn device_word(text: &[u8]) -> Result<(&[u8], &[u8]), LineFault> {
-    let (device, rest) = word(text)?;
-    match device_numbers(device) {
-        None => Err(LineFault::NotAnEvent),
-        Some(_) => Ok((device, rest)),
-    }
-}
-
-fn device_numbers(text: &[u8]) -> Option<(u64, u64)> {
-    let comma = text.iter().position(|byte| *byte == b',')?;
-    let major = number(text.get(..comma)?)?;
-    let minor = number(text.get(comma..)?.get(1..)?)?;
-    Some((major, minor))
 }
 
 // None for the actions that say nothing of when a request arrives or starts.

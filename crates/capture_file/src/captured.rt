@@ -45,6 +45,8 @@ pub struct Counts {
     pub devices_without_starts: u64,
     /// The requests of those devices.
     pub requests_without_starts: u64,
+    /// Requests that were started at most 100 us before they arrived, by the clocks of two processors. They arrived when they were started.
+    pub early_starts: u64,
     /// Lines that were refused and left out.
     pub refused_lines: u64,
     /// Records of fio's latency logs that belong to no request of the iolog.

@@ -1,6 +1,7 @@
 //! The columns of a CSV file.
 
 use crate::line_fault::LineFault;
+use crate::options::DriverBy;
 use csv::ByteRecord;
 use std::alloc::{AllocError, Global};
 
@@ -13,11 +14,17 @@ pub struct Columns {
     pub end: Option<usize>,
     pub driver: Option<usize>,
     pub priority: Option<usize>,
+    pub size: Option<usize>,
+    pub comm: Option<usize>,
+    pub pid: Option<usize>,
+    pub cgroup: Option<usize>,
     /// How many there are.
     pub count: usize,
 }
 
-const NAMES: [&str; 6] = ["arrival", "start", "device", "end", "driver", "priority"];
+const NAMES: [&str; 10] = [
+    "arrival", "start", "device", "end", "driver", "priority", "size", "comm", "pid", "cgroup",
+];
 
 /// The columns that a header names, in any order, among others that aren't read.
 ///
@@ -25,7 +32,7 @@ const NAMES: [&str; 6] = ["arrival", "start", "device", "end", "driver", "priori
 ///
 /// `DoubleColumn` of the first column with the name of an earlier one that is read, `MissingColumn`.
 pub fn columns_of(header: &ByteRecord) -> Result<Columns, LineFault> {
-    let mut found = [None; 6];
+    let mut found = [None; NAMES.len()];
     for place in 0..header.len() {
         find(&mut found, header.get(place).unwrap_or(b""), place)?;
     }
@@ -36,6 +43,10 @@ pub fn columns_of(header: &ByteRecord) -> Result<Columns, LineFault> {
         end,
         driver,
         priority,
+        size,
+        comm,
+        pid,
+        cgroup,
     ] = found
     else {
         return Err(LineFault::MissingColumn);
@@ -47,12 +58,20 @@ pub fn columns_of(header: &ByteRecord) -> Result<Columns, LineFault> {
         end,
         driver,
         priority,
+        size,
+        comm,
+        pid,
+        cgroup,
         count: header.len(),
     })
 }
 
 // Puts down the place of a column, if it is one that is read.
-fn find(found: &mut [Option<usize>; 6], name: &[u8], place: usize) -> Result<(), LineFault> {
+fn find(
+    found: &mut [Option<usize>; NAMES.len()],
+    name: &[u8],
+    place: usize,
+) -> Result<(), LineFault> {
     let Some(which) = read_name(name) else {
         return Ok(());
     };
@@ -69,6 +88,18 @@ fn find(found: &mut [Option<usize>; 6], name: &[u8], place: usize) -> Result<(),
 fn read_name(name: &[u8]) -> Option<usize> {
     let name = name.trim_ascii();
     NAMES.iter().position(|column| column.as_bytes() == name)
+}
+
+impl Columns {
+    /// Whether there is a column for the drivers that are asked for.
+    pub fn have(&self, by: Option<DriverBy>) -> bool {
+        match by {
+            None => true,
+            Some(DriverBy::Comm) => self.comm.is_some() || self.driver.is_some(),
+            Some(DriverBy::Pid) => self.pid.is_some(),
+            Some(DriverBy::Cgroup) => self.cgroup.is_some(),
+        }
+    }
 }
 
 /// The names of the columns that aren't read.

@@ -3,34 +3,31 @@
 use crate::columns::Columns;
 use crate::line_fault::{Field, LineFault};
 use crate::number::{number, time_of};
+use crate::options::SKEW;
 use crate::priority::LAST;
+use crate::row::Row;
 use csv::ByteRecord;
 
-/// What a row says.
-#[derive(Clone, Copy)]
-pub struct CsvRow<'a> {
-    pub arrival: u64,
-    pub started: Option<u64>,
-    pub completed: Option<u64>,
-    pub priority: Option<u32>,
-    pub device: &'a [u8],
-    pub driver: &'a [u8],
-}
-
 /// What a row says. The unit of its times has so many nanoseconds.
-pub fn csv_row(unit: u64, columns: Columns, row: &ByteRecord) -> Result<CsvRow<'_>, LineFault> {
+pub fn csv_row(unit: u64, columns: Columns, row: &ByteRecord) -> Result<Row<'_>, LineFault> {
     if row.len() != columns.count {
         return Err(LineFault::BadRecord);
     }
     let (arrival, started, completed) = times(unit, columns, row)?;
     let priority = stated_priority(field(row, columns.priority))?;
-    Ok(CsvRow {
+    Ok(Row {
         arrival,
         started,
         completed,
+        has_arrival: true,
         priority,
+        flags: b"",
+        size: size_of(field(row, columns.size))?,
         device: field(row, Some(columns.device)),
-        driver: driver_name(field(row, columns.driver)),
+        driver: field(row, columns.driver),
+        comm: field(row, columns.comm),
+        pid: field(row, columns.pid),
+        cgroup: field(row, columns.cgroup),
     })
 }
 
@@ -43,7 +40,7 @@ fn times(
     let arrival = time(unit, field(row, Some(columns.arrival)), Field::Time)?;
     let started = optional_time(unit, field(row, Some(columns.start)), Field::Start)?;
     let completed = optional_time(unit, field(row, columns.end), Field::End)?;
-    if started.is_some_and(|time| time < arrival) {
+    if started.is_some_and(|time| time.saturating_add(SKEW) < arrival) {
         return Err(LineFault::StartedEarly);
     }
     match (started, completed) {
@@ -72,8 +69,11 @@ fn field(row: &ByteRecord, column: Option<usize>) -> &[u8] {
     }
 }
 
-fn driver_name(name: &[u8]) -> &[u8] {
-    if name.is_empty() { b"driver" } else { name }
+fn size_of(text: &[u8]) -> Result<u64, LineFault> {
+    if text.is_empty() {
+        return Ok(0);
+    }
+    number(text).ok_or(LineFault::BadNumber(Field::Size))
 }
 
 fn stated_priority(text: &[u8]) -> Result<Option<u32>, LineFault> {

@@ -48,6 +48,11 @@ impl Drivers {
         Ok((number, own))
     }
 
+    /// The priority that the driver of a number has of its own.
+    pub fn own(&self, number: u8) -> Option<u32> {
+        self.own.get(usize::from(number)).copied().flatten()
+    }
+
     /// The names, in their order.
     pub fn list(&self) -> &[Vec<u8>] {
         self.names.list()
@@ -68,7 +73,8 @@ pub fn capture_of(
 ) -> Result<Capture, LineFault> {
     let before = requests.len();
     requests.retain(|request| options.takes_time(request.arrival));
-    counts.other_times = before.saturating_sub(requests.len()) as u64;
+    let others = before.saturating_sub(requests.len()) as u64;
+    counts.other_times = counts.other_times.saturating_add(others);
     requests.sort_by_key(|request| request.arrival)?;
     let (used_devices, used_drivers) = used_numbers(
         alloc,

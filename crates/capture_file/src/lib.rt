@@ -1,25 +1,27 @@
-//! Captures as text: what `blkparse` prints, what fio logs, and CSV with named columns, each read line by line to requests in
-//! time.
+//! Captures as text: what `blkparse`, the kernel's tracepoints and `biosnoop` print, what fio logs, and CSV with named columns, each read
+//! line by line to requests in time.
 #![tactic(auto)]
 
-pub use blkparse_reader::BlkparseReader;
 pub use captured::{Capture, Counts};
-pub use csv_reader::CsvReader;
 pub use device_pick::DevicePick;
+pub use event_reader::{EventForm, EventReader};
 pub use fio_reader::FioReader;
 pub use line_fault::{Field, LineFault};
-pub use line_reader::{LineReader, MAX_LINE_BYTES, ReadFault, read_lines};
+pub use line_reader::{LineReader, MAX_LINE_BYTES, ReadFault, Refused, Tolerance, read_lines};
 pub use number::time_of;
-pub use options::{CsvTimeUnit, Options, Priorities};
+pub use options::{CsvTimeUnit, DriverBy, Options, Priorities, SLACK};
+pub use sorted_reader::SortedReader;
+pub use table_reader::{TableForm, TableReader};
+pub use window_parts::WindowParts;
 
+mod biosnoop_row;
 mod blkparse_line;
-mod blkparse_reader;
-mod blkparse_requests;
+mod block_event;
 mod captured;
 mod columns;
-mod csv_reader;
 mod csv_row;
 mod device_pick;
+mod event_reader;
 mod finishing;
 mod fio_job;
 mod fio_lines;
@@ -32,5 +34,10 @@ mod options;
 mod priority;
 mod queues;
 mod quotes;
+mod row;
 mod sizes;
+mod sorted_reader;
+mod table_reader;
+mod tracepoint_line;
+mod window_parts;
 mod words;

@@ -19,6 +19,8 @@ pub enum Field {
     Offset,
     Bytes,
     Latency,
+    Wait,
+    Size,
     Direction,
     Start,
     End,
@@ -37,6 +39,8 @@ impl fmt::Display for Field {
             Field::Offset => "offset",
             Field::Bytes => "count of bytes",
             Field::Latency => "latency",
+            Field::Wait => "wait",
+            Field::Size => "size",
             Field::Direction => "direction",
             Field::Start => "start",
             Field::End => "end",
@@ -48,12 +52,15 @@ impl fmt::Display for Field {
 /// Why a line is refused. It is then left out.
 #[derive(Clone, Copy, Debug, PartialEq, Eq, Error)]
 pub enum LineFault {
-    /// The line isn't one of blkparse's.
+    /// The line isn't one of the tool's.
     #[error("not an event")]
     NotAnEvent,
     /// The time is before that of an earlier line.
     #[error("the time is before that of an earlier line")]
     TimeFalls,
+    /// The arrival is more than a second before that of an earlier line.
+    #[error("the arrival is more than a second before that of an earlier line: sort the lines by arrival, or read all of it first by --unsorted")]
+    TimeFallsFar,
     /// A field isn't a number, or isn't in its range.
     #[error("the {0} isn't a number in its range")]
     BadNumber(Field),
@@ -90,6 +97,12 @@ pub enum LineFault {
     /// The header of a CSV file lacks a column that is needed.
     #[error("a column is missing: arrival, start and device are needed")]
     MissingColumn,
+    /// The header of a CSV file lacks the column of the drivers that are asked for.
+    #[error("a column is missing: the one that --driver-by names")]
+    MissingDriver,
+    /// The table of `biosnoop` has no waits.
+    #[error("no QUE(ms): run biosnoop with -Q")]
+    NoWaits,
     /// The record hasn't as many fields as the header.
     #[error("not as many fields as the header has columns")]
     BadRecord,

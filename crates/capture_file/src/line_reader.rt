@@ -2,7 +2,7 @@
 
 use crate::line_fault::LineFault;
 use memchr::{memchr, memchr_iter};
-use std::alloc::Global;
+use std::alloc::{AllocError, Global};
 use std::io;
 use std::io::Read;
 use thiserror::Error;
@@ -20,6 +20,11 @@ pub trait LineReader {
 
     /// Counts a line that was refused and is left out.
     fn count_refused(&mut self);
+
+    /// Whether it needs no more lines.
+    fn is_done(&self) -> bool {
+        false
+    }
 }
 
 /// Why an input wasn't read to its end.
@@ -39,30 +44,114 @@ pub enum ReadFault {
     OutOfMemory,
 }
 
-/// Feeds the lines of an input to a reader, and answers whether there was one that isn't blank. A line ends with a line feed, or
-/// with a carriage return and a line feed; the last one may lack its end. Besides what the reader keeps this takes 128 KiB. If a
-/// line is refused, `line` has it, or its first 65,536 bytes.
+/// Which of the lines that are refused are left out.
+#[derive(Clone, Copy, Debug, PartialEq, Eq)]
+pub enum Tolerance {
+    /// None: the first one is a fault.
+    Strict,
+    /// As many as one in a thousand.
+    Few,
+    /// All.
+    Lenient,
+}
+
+// So many lines are read before it is a fault that more than one in a thousand was refused.
+const MAX_REFUSED: u64 = 1_000;
+
+/// The lines that were refused so far, of one or more inputs.
+#[derive(Drop)]
+pub struct Refused {
+    tolerance: Tolerance,
+    lines: u64,
+    count: u64,
+    // The input's number, and the line's.
+    input: usize,
+    first: Option<(usize, u64, LineFault)>,
+    text: Vec<u8>,
+    // Whether that line ends the reading.
+    is_last: bool,
+}
+
+impl Refused {
+    /// None yet.
+    pub fn new(alloc: Global, tolerance: Tolerance) -> Refused {
+        Refused {
+            tolerance,
+            lines: 0,
+            count: 0,
+            input: 0,
+            first: None,
+            text: Vec::new(alloc),
+            is_last: false,
+        }
+    }
+
+    /// The first line that was refused: the number of its input and its own, and why.
+    pub fn first(&self) -> Option<(usize, u64, LineFault)> {
+        self.first
+    }
+
+    /// That line, or its first 65,536 bytes.
+    pub fn text(&self) -> &[u8] {
+        &self.text
+    }
+
+    /// The next lines are those of the input of this number.
+    pub fn begin_input(&mut self, number: usize) {
+        self.input = number;
+    }
+
+    /// The first line that was refused, if more were than may be left out; or the last one, if it ended the reading.
+    pub fn fault(&self) -> Option<(usize, u64, LineFault)> {
+        let is_too_many = match self.tolerance {
+            _ if self.is_last => true,
+            Tolerance::Strict => self.count > 0,
+            Tolerance::Few => self.count.saturating_mul(1_000) > self.lines,
+            Tolerance::Lenient => false,
+        };
+        if is_too_many { self.first } else { None }
+    }
+
+    // Whether nothing more need be read to know that there is a fault.
+    fn is_enough(&self) -> bool {
+        let is_sure = self.is_last
+            || self.tolerance == Tolerance::Strict
+            || self.count > MAX_REFUSED;
+        is_sure && self.fault().is_some()
+    }
+
+    fn add(&mut self, number: u64, fault: LineFault, line: &[u8]) -> Result<(), AllocError> {
+        self.count = self.count.saturating_add(1);
+        if self.first.is_none() || self.is_last {
+            self.text.clear();
+            self.text.extend_from_slice(line)?;
+            self.first = Some((self.input, number, fault));
+        }
+        Ok(())
+    }
+}
+
+/// Feeds the lines of an input to a reader until it needs no more, and answers whether there was one that isn't blank. A line ends with a line feed, or
+/// with a carriage return and a line feed; the last one may lack its end. Besides what the reader keeps this takes 128 KiB. Lines that
+/// are refused are put down in `refused`: also those that have a carriage return inside, or more than 65,536 bytes.
 ///
 /// # Errors
 ///
-/// `Line` with the first line that is refused: also one that has a carriage return inside, or more than 65,536 bytes, which isn't
-/// read to its end. If `lenient`, such lines are counted and left out. `ReadFailed` if a read fails, `OutOfMemory` if no memory is
-/// left, lenient or not.
+/// `Line` once more lines were refused than may be left out, with the first of all; [`Refused::fault`] says at the end whether it were too
+/// many. `ReadFailed` if a read fails, `OutOfMemory` if no memory is left.
 pub fn read_lines<R: Read, T: LineReader>(
     alloc: Global,
     input: &mut R,
-    lenient: bool,
+    refused: &mut Refused,
     reader: &mut T,
-    line: &mut Vec<u8>,
 ) -> Result<bool, ReadFault> {
     let Ok(mut chunk) = vec![in alloc; 0u8; CHUNK] else {
         return Err(ReadFault::OutOfMemory);
     };
-    line.clear();
-    let mut lines = Lines::new(line, lenient);
+    let mut lines = Lines::new(alloc, refused);
     for _ in 0..u64::MAX {
         let count = read_some(input, chunk.as_mut_slice())?;
-        if count == 0 {
+        if count == 0 || reader.is_done() {
             break;
         }
         lines.take(chunk.get(..count).unwrap_or(b""), reader)?;
@@ -80,20 +169,20 @@ fn read_some<R: Read>(input: &mut R, chunk: &mut [u8]) -> Result<usize, ReadFaul
 // The line that is being put together, how many came before it, and whether one of them isn't blank.
 #[derive(Drop)]
 struct Lines<'a> {
-    line: &'a mut Vec<u8>,
+    line: Vec<u8>,
+    refused: &'a mut Refused,
     too_long: bool,
     before: u64,
-    lenient: bool,
     has_text: bool,
 }
 
 impl<'a> Lines<'a> {
-    fn new(line: &'a mut Vec<u8>, lenient: bool) -> Lines<'a> {
+    fn new(alloc: Global, refused: &'a mut Refused) -> Lines<'a> {
         Lines {
-            line,
+            line: Vec::new(alloc),
+            refused,
             too_long: false,
             before: 0,
-            lenient,
             has_text: false,
         }
     }
@@ -101,18 +190,18 @@ impl<'a> Lines<'a> {
     fn take<T: LineReader>(&mut self, bytes: &[u8], reader: &mut T) -> Result<(), ReadFault> {
         let mut begin = 0;
         for end in memchr_iter(b'\n', bytes) {
-            self.add(bytes.get(begin..end).unwrap_or(b""))?;
+            self.add(bytes.get(begin..end).unwrap_or(b""), reader)?;
             self.end_line(reader)?;
+            if reader.is_done() {
+                return Ok(());
+            }
             begin = end.saturating_add(1);
         }
-        self.add(bytes.get(begin..).unwrap_or(b""))
+        self.add(bytes.get(begin..).unwrap_or(b""), reader)
     }
 
-    fn number(&self) -> u64 {
-        self.before.saturating_add(1)
-    }
-
-    fn add(&mut self, piece: &[u8]) -> Result<(), ReadFault> {
+    // A line that is too long isn't read to its end, since it may have none, unless all lines may be left out.
+    fn add<T: LineReader>(&mut self, piece: &[u8], reader: &mut T) -> Result<(), ReadFault> {
         let room = MAX_LINE_BYTES.saturating_sub(self.line.len());
         if piece.len() > room {
             self.too_long = true;
@@ -121,8 +210,9 @@ impl<'a> Lines<'a> {
         if self.line.extend_from_slice(part).is_err() {
             return Err(ReadFault::OutOfMemory);
         }
-        if self.too_long && !self.lenient {
-            return Err(ReadFault::Line(self.number(), LineFault::TooLong));
+        if self.too_long && self.refused.tolerance != Tolerance::Lenient {
+            self.refused.is_last = true;
+            return self.refuse(LineFault::TooLong, reader);
         }
         Ok(())
     }
@@ -133,22 +223,32 @@ impl<'a> Lines<'a> {
         } else {
             take_line(reader, without_return(self.line.as_slice()))
         };
+        self.refused.lines = self.refused.lines.saturating_add(1);
         match answer {
             Ok(is_blank) => self.has_text = self.has_text || !is_blank,
             Err(LineFault::OutOfMemory) => return Err(ReadFault::OutOfMemory),
-            Err(_) if self.lenient => self.pass(reader),
-            Err(fault) => return Err(ReadFault::Line(self.number(), fault)),
+            Err(fault) => self.refuse(fault, reader)?,
         }
         self.line.clear();
         self.too_long = false;
-        self.before = self.number();
+        self.before = self.before.saturating_add(1);
         Ok(())
     }
 
-    // Passes a line that is refused.
-    fn pass<T: LineReader>(&mut self, reader: &mut T) {
+    // Passes a line that is refused, if it may be left out.
+    fn refuse<T: LineReader>(&mut self, fault: LineFault, reader: &mut T) -> Result<(), ReadFault> {
+        let number = self.before.saturating_add(1);
+        if self.refused.add(number, fault, &self.line).is_err() {
+            return Err(ReadFault::OutOfMemory);
+        }
+        if self.refused.is_enough()
+            && let Some((_, number, fault)) = self.refused.first
+        {
+            return Err(ReadFault::Line(number, fault));
+        }
         reader.count_refused();
         self.has_text = true;
+        Ok(())
     }
 
     fn finish<T: LineReader>(mut self, reader: &mut T) -> Result<bool, ReadFault> {

@@ -2,6 +2,12 @@
 
 use crate::device_pick::DevicePick;
 
+/// How far a line may go back in time: a second, in nanoseconds.
+pub const SLACK: u64 = 1_000_000_000;
+
+/// By how much the clocks of two processors may differ: 100 us, in nanoseconds.
+pub const SKEW: u64 = 100_000;
+
 /// Where the priorities of requests come from.
 #[derive(Clone, Copy, Debug, Default, PartialEq, Eq)]
 pub enum Priorities {
@@ -14,11 +20,21 @@ pub enum Priorities {
     Flat,
 }
 
+/// What a driver is: all requests that have one name, one process id or one control group.
+#[derive(Clone, Copy, Debug, PartialEq, Eq)]
+pub enum DriverBy {
+    Comm,
+    Pid,
+    Cgroup,
+}
+
 /// What is taken from an input, and with which priorities.
 #[derive(Debug, Drop)]
 pub struct Options {
     /// Where priorities come from.
     pub priorities: Priorities,
+    /// What a driver is, if that is given; else the name that the input has for it.
+    pub driver_by: Option<DriverBy>,
     /// Drivers with a priority of their own, which comes before the rest. Of two with one name the first counts.
     pub drivers: Vec<(String, u32)>,
     /// The devices that are taken. Empty: all. Of two that take a device the first counts.
@@ -27,6 +43,9 @@ pub struct Options {
     pub from_time: Option<u64>,
     /// Requests that arrive at or after this time are left out, in nanoseconds of the input's clock.
     pub to_time: Option<u64>,
+    /// Whether lines are in the order of time but for a second. Then reading ends when all that arrived before `to_time` is known, and
+    /// a line of a table that goes back by more is refused.
+    pub is_sorted: bool,
 }
 
 impl Options {
@@ -56,6 +75,16 @@ impl Options {
     /// Whether requests that arrive at a time are taken.
     pub fn takes_time(&self, time: u64) -> bool {
         self.from_time.is_none_or(|from| from <= time) && self.is_before_end(time)
+    }
+
+    /// When a line comes after which no arrival is taken: a second after the end of what is taken. None if there is no such end, or lines
+    /// come in any order.
+    pub fn last_arrival(&self) -> Option<u64> {
+        if self.is_sorted {
+            Some(self.to_time?.saturating_add(SLACK))
+        } else {
+            None
+        }
     }
 
     /// Whether a time is before the end of what is taken.

@@ -1,5 +1,8 @@
 //! The words and columns of a line.
 
+use crate::line_fault::LineFault;
+use crate::number::number;
+
 /// The first word of a text, and what comes after it. None if there is no word.
 pub fn next_word(text: &[u8]) -> Option<(&[u8], &[u8])> {
     let text = text.trim_ascii_start();
@@ -31,4 +34,29 @@ pub fn bracketed(text: &[u8]) -> Option<&[u8]> {
     let inner = text.get(open..)?.get(1..)?;
     let close = inner.iter().rposition(|byte| *byte == b']')?;
     inner.get(..close)
+}
+
+/// A device, a major and a minor number as `8,16`, and what comes after it.
+pub fn device_word(text: &[u8]) -> Result<(&[u8], &[u8]), LineFault> {
+    let (device, rest) = next_word(text).ok_or(LineFault::NotAnEvent)?;
+    match device_numbers(device) {
+        None => Err(LineFault::NotAnEvent),
+        Some(_) => Ok((device, rest)),
+    }
+}
+
+fn device_numbers(text: &[u8]) -> Option<(u64, u64)> {
+    let comma = text.iter().position(|byte| *byte == b',')?;
+    let major = number(text.get(..comma)?)?;
+    let minor = number(text.get(comma..)?.get(1..)?)?;
+    Some((major, minor))
+}
+
+/// Refuses what aren't the letters of a direction.
+pub fn check_flags(flags: &[u8]) -> Result<(), LineFault> {
+    if flags.iter().all(|byte| byte.is_ascii_uppercase()) {
+        Ok(())
+    } else {
+        Err(LineFault::NotAnEvent)
+    }
 }

@@ -1,8 +1,11 @@
 -- how far windows were taken
-use Rattle.std.specs.Prelude.{◌≡◌, ℕ, ◌<◌, ◌≤◌, Bool, List, length, slice_index_or, All, IfSome, nat_lt}
+use Rattle.std.specs.Prelude.{◌≡◌, ℕ, ◌+◌, ◌*◌, ◌^◌, ◌<◌, ◌≤◌, Bool, false, List, length, slice_index_or, All, IfSome, nat_lt}
 use Rattle.std.specs.List.{list_all}
-use Rattle.capture_windows.specs.Attempts.{Attempt}
+use Rattle.capture_windows.specs.Attempts.{Attempt, TimeSpan}
 use Rattle.capture_windows.specs.Devices.{KnownDevice, WindowRoom}
+use Rattle.capture_windows.specs.Windows.{IsFault}
+use Rattle.capture_windows.specs.declared.window_fault.WindowFault.{WindowFault}
+use Rattle.capture_windows.specs.declared.window_fault.WindowFault.TheVariants.{NoDevice, OutOfMemory, TooFew, TooLong, TooMany}
 
 -- where the next window begins, and its round 1; how long a round is; and what is known of each device
 pub record Progress : Type 0 where
@@ -30,3 +33,21 @@ AreKnownAfter old rooms new = (device : ℕ) (k : KnownDevice) (room : WindowRoo
 -- each attempt is of one of so many devices
 abbrev pub are_known : ℕ → List Attempt → Bool
 are_known devices attempts = list_all (λ (a : Attempt). nat_lt a.request.device devices) attempts
+
+-- a window of so many rounds can be the next one: it has some, not too many, and ends while there is time
+pub record CanBeNext (p : Progress) (count : ℕ) : Type 0 where
+  pub some : 1 ≤ count
+  pub few : count ≤ 65534
+  pub in_time : p.begin + count * p.length < 2 ^ 64
+
+-- from where the last window ended to the end of the next one, of so many rounds
+abbrev pub next_span : Progress → ℕ → TimeSpan
+next_span p count = record { from = p.from; until = p.begin + count * p.length }
+
+-- why the next window, of so many rounds, isn't taken
+abbrev pub IsNextFault : Progress → List Attempt → ℕ → WindowFault → Type 0
+IsNextFault p attempts count TooLong = CanBeNext p count → ⊥
+IsNextFault p attempts count NoDevice = are_known (length p.devices) attempts ≡ false
+IsNextFault p attempts count TooMany = IsFault (next_span p count) attempts p.devices TooMany
+IsNextFault p attempts count (TooFew device number) = IsFault (next_span p count) attempts p.devices (TooFew device number)
+IsNextFault p attempts count OutOfMemory = IsFault (next_span p count) attempts p.devices OutOfMemory

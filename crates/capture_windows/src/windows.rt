@@ -1,6 +1,6 @@
 //! The windows of a capture, taken one after the other.
 
-ghost use Rattle.std.specs.Prelude.{◌≡◌, ◌≤◌, All, IfSome, IfOk, OnErr, OnOk, IsTrue, length};
+ghost use Rattle.std.specs.Prelude.{◌≡◌, ◌≤◌, All, IfErr, IfSome, IfOk, OnErr, OnOk, IsTrue, length};
 ghost use Rattle.capture_windows.specs.Attempts.{Attempt};
 ghost use Rattle.capture_windows.specs.Progress.{AreKnownAfter, are_known};
 ghost use Rattle.capture_windows.specs.Devices.{KnownDevice as Device, WindowRoom as TheRoom};
@@ -52,7 +52,7 @@ impl Windows {
     ghost use Rattle.capture_windows.specs.Attempts.{requests_in, waiting_at};
     ghost use Rattle.capture_windows.specs.Devices.{going_on};
     ghost use Rattle.capture_windows.specs.Windows.{AreRooms};
-    ghost use Rattle.capture_windows.specs.Progress.{AreKnownAfter};
+    ghost use Rattle.capture_windows.specs.Progress.{AreKnownAfter, CanBeNext, IsNextFault, are_known, next_span};
 
     /// None was taken yet. The first one has all that was started before its end, and its round 1 begins at that time. Rounds have so many
     /// nanoseconds.
@@ -110,7 +110,9 @@ impl Windows {
         attempts: &[Attempt],
         count: u32,
     ) -> Result<Window, WindowFault>
-        ensures span { IfOk result (λ w. w.span ≡ record { from = self.old.from; until = self.old.begin + count * self.old.length }) }
+        ensures can_be_next { IfOk result (λ _. CanBeNext self.old count) }
+        ensures are_known { IfOk result (λ _. IsTrue (are_known (length self.old.devices) attempts.now)) }
+        ensures span { IfOk result (λ w. w.span ≡ next_span self.old count) }
         ensures rounds { IfOk result (λ w. w.rounds ≡ record { begin = self.old.begin; length = self.old.length; count = count }) }
         ensures requests { IfOk result (λ w. w.taken.requests.items ≡ requests_in w.span attempts.now) }
         ensures waiting { IfOk result (λ w. w.taken.waiting.items ≡ waiting_at w.span.until attempts.now) }
@@ -121,6 +123,7 @@ impl Windows {
         ensures length { self.new.length ≡ self.old.length }
         ensures devices { length self.new.devices ≡ length self.old.devices }
         ensures known { IfOk result (λ w. AreKnownAfter self.old.devices w.taken.rooms.items self.new.devices) }
+        ensures fault { IfErr result (IsNextFault self.old attempts.now count) }
         ensures err { OnErr result (self.new ≡ self.old) }
     {
         if count == 0 || count > MAX_WINDOW_ROUNDS {

@@ -33,6 +33,8 @@ mod levels;
 #[cfg(test)]
 mod linked;
 #[cfg(test)]
+mod long_captures;
+#[cfg(test)]
 mod meeting;
 #[cfg(test)]
 mod own_reports;

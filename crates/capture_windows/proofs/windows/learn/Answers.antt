@@ -1,4 +1,4 @@
-use Rattle.std.proofs.Common.{arith, refl, None, ◌≤◌, ◌≡◌, IfSome, ap, sym}
+use Rattle.std.proofs.Common.{arith, refl, None}
 use Rattle.capture_windows.specs.Devices.{KnownDevice, WindowRoom}
 use Rattle.capture_windows.proofs.KnownLemmas.{learnt_more}
 use Rattle.capture_windows.proofs.windows.learn.Goals as goal

@@ -13,7 +13,7 @@ use Rattle.round_net.specs.declared.cause.WaitCause.TheVariants.{Error, Caller, 
 use Rattle.wait_causes.specs.Origins.{cause_of, config_in, instance_in, known_of}
 use Rattle.wait_causes.specs.declared.origin.Origin.{Origin}
 use Rattle.wait_causes.specs.declared.explained_stay.ExplainedStay.{ExplainedStay}
-use Rattle.blame.specs.InTheWay.{shares_link, is_there, served_to, is_served, is_then, is_candidate, rather, first_of, in_way, last_for, with_candidate, ArePut}
+use Rattle.blame.specs.InTheWay.{shares_link, is_there, served_to, is_served, is_then, is_candidate, rather, first_of, in_way, last_for, with_candidate, is_above, NeverAbove, ArePut}
 
 first-append : (xs : List ExplainedStay) (s : ExplainedStay) → first_of (xs ++ s ∷ []) ≡ Some (rather (first_of xs) s)
 first-append xs s = fold-append (λ t s. Some (rather t s)) None xs (s ∷ [])
@@ -99,6 +99,35 @@ unput_far o d s ws far = record {
   all = refl;
   each = λ k x lt. sym (unput o d (k + 1) s (get_or ws k x) (and_first _ _ (far_there (config_in o) d (cause_of o d (k + 1)) s far)));
 }
+
+-- nor is one of another device, where the device's stays never wait for what is above it
+local_there : (c : Topology) (d : ℕ) (cause : WaitCause) (s : ExplainedStay) → (s.device == d) ≡ false → is_above cause ≡ false → is_there c d cause s ≡ false
+local_there c d Error s e f = refl
+local_there c d Caller s e f = refl
+local_there c d AdapterFrozen s e f = refl
+local_there c d DeviceStopped s e f = e
+local_there c d AdapterStopped s e f = absurd (cc)
+local_there c d LinkStopped s e f = absurd (cc)
+local_there c d DeviceFull s e f = e
+local_there c d AdapterFull s e f = absurd (cc)
+local_there c d LinkFull s e f = absurd (cc)
+local_there c d NotAsked s e f = refl
+
+pub unput_local : (o : Origin) (d : ℕ) (s : ExplainedStay) (ws : List (Option ExplainedStay)) → (s.device == d) ≡ false → NeverAbove o d (instance_in o).rounds → length ws ≡ (instance_in o).rounds → ArePut o d s ws ws
+unput_local o d s ws apart never size = record {
+  all = refl;
+  each = λ k x lt. sym (unput o d (k + 1) s (get_or ws k x) (and_first _ _ (local_there (config_in o) d (cause_of o d (k + 1)) s apart (never (k + 1) (omega arith) (omega (arith, lt, size))))));
+}
+
+-- one round more in which a device's stays don't wait for what is above it
+pub never_more : (o : Origin) (d n : ℕ) → NeverAbove o d n → is_above (cause_of o d (n + 1)) ≡ false → NeverAbove o d (n + 1)
+never_more o d n never last r first le = elim (nat_le r n) as (λ b. nat_le r n ≡ b → is_above (cause_of o d r) ≡ false) [
+  | true ↦ λ e. never r first (grind (arith, nat_tests))
+  | false ↦ λ e.
+      let late : n < r = grind (arith, nat_tests) in
+      let at : r ≡ n + 1 = omega (arith, late, le) in
+      ap (λ j. is_above (cause_of o d j)) at ∙ last
+] refl
 
 -- so many rounds are done
 pub record ArePutBelow (o : Origin) (d : ℕ) (s : ExplainedStay) (n : ℕ) (old new : List (Option ExplainedStay)) : Type 0 where

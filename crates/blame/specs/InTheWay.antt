@@ -1,5 +1,5 @@
 -- who was in the way of the stays that waited for a device in a round
-use Rattle.std.specs.Prelude.{◌≡◌, ℕ, ◌+◌, ◌<◌, ◌==◌, ◌&&◌, ◌||◌, Bool, false, nat_lt, nat_le, min, max, if◌then◌else◌, List, filter, fold, Option, Some, None, unwrap_or, slice_get, get_or, length, option_and_then}
+use Rattle.std.specs.Prelude.{◌≡◌, ℕ, ◌+◌, ◌<◌, ◌≤◌, ◌==◌, ◌&&◌, ◌||◌, Bool, true, false, nat_lt, nat_le, min, max, if◌then◌else◌, List, filter, fold, Option, Some, None, unwrap_or, slice_get, get_or, length, option_and_then}
 use Rattle.std.specs.Option.{option_map}
 use Rattle.cam_types.specs.Questions.{adapter_link, is_on}
 use Rattle.cam_types.specs.Topology.{Topology}
@@ -31,6 +31,18 @@ is_there c d AdapterStopped s = is_on c s.adapter d
 is_there c d LinkFull s = shares_link c s.adapter d
 is_there c d LinkStopped s = shares_link c s.adapter d
 is_there c d _ s = false
+
+-- stays waited for what is above the device: for its adapter, or for the adapter's link
+abbrev pub is_above : WaitCause → Bool
+is_above AdapterFull = true
+is_above AdapterStopped = true
+is_above LinkFull = true
+is_above LinkStopped = true
+is_above _ = false
+
+-- those of a device never did, up to a round
+abbrev pub NeverAbove : Origin → ℕ → ℕ → Type 0
+NeverAbove o d n = (r : ℕ) → 1 ≤ r → r ≤ n → is_above (cause_of o d r) ≡ false
 
 -- the last round in which a stay is in service, of that many rounds: that of its completion; without one, its last round
 abbrev pub served_to : ℕ → ExplainedStay → ℕ

@@ -1,10 +1,10 @@
 //! Who was in the way of the stays that waited for a device.
 
-ghost use Rattle.std.specs.Prelude.{◌≡◌, ◌<◌, ◌≤◌, ◌||◌, ◌==◌, length, map, replicate, None, IfOk};
+ghost use Rattle.std.specs.Prelude.{◌≡◌, ◌<◌, ◌≤◌, ◌||◌, ◌==◌, false, length, map, replicate, None, IfOk};
 ghost use Rattle.std.specs.List.{range_with_len};
 ghost use Rattle.cam_types.specs.Questions.{is_on};
 ghost use Rattle.wait_causes.specs.Origins.{instance_in, known_of};
-ghost use Rattle.blame.specs.InTheWay.{device_link, is_same_link, shares_link, is_there, is_served, is_then, is_candidate, served_to, rather, last_for, in_way, ArePut};
+ghost use Rattle.blame.specs.InTheWay.{device_link, is_same_link, shares_link, is_there, is_served, is_then, is_candidate, served_to, rather, last_for, in_way, is_above, NeverAbove, ArePut};
 ghost use Rattle.blame.specs.Lists.{stays_in};
 
 use cam_types::Config;
@@ -21,10 +21,37 @@ pub(crate) fn in_way_of(
     ensures { let e = explanation.now in IfOk result (λ ways. ways.items ≡ map (in_way e.origin (stays_in e) device) (range_with_len 1 (instance_in e.origin).rounds)) }
 {
     let mut ways = nobody(alloc, explanation.rounds())?;
+    let waits_above = waits_above(explanation, device);
     for stay in explanation.stays() {
-        note(explanation, device, stay, &mut ways);
+        note(explanation, device, waits_above, stay, &mut ways);
     }
     Ok(ways)
+}
+
+// Whether stays of the device waited for its adapter or link in some round. If not, only its own stays can be in the way.
+fn waits_above(explanation: &Explanation, device: u32) -> bool
+    requires device { device < (instance_in explanation.now.origin).devices }
+    ensures { result ≡ false → NeverAbove explanation.now.origin device (instance_in explanation.now.origin).rounds }
+{
+    for before in 0..explanation.rounds() {
+        if is_above(explanation.cause(device, before + 1)) {
+            return true;
+        }
+    }
+    false
+}
+
+// Whether it is an adapter or a link for which stays waited.
+fn is_above(cause: WaitCause) -> bool
+    ensures { result ≡ is_above cause }
+{
+    match cause {
+        WaitCause::AdapterFull
+        | WaitCause::AdapterStopped
+        | WaitCause::LinkFull
+        | WaitCause::LinkStopped => true,
+        _ => false,
+    }
 }
 
 // Nobody in each of that many rounds.
@@ -42,13 +69,18 @@ fn nobody(alloc: Global, rounds: u32) -> Result<Vec<Option<ExplainedStay>>, Allo
 fn note(
     explanation: &Explanation,
     device: u32,
+    waits_above: bool,
     stay: &ExplainedStay,
     ways: &mut [Option<ExplainedStay>],
 )
     requires device { device < (instance_in explanation.now.origin).devices }
+    requires above { waits_above ≡ false → NeverAbove explanation.now.origin device (instance_in explanation.now.origin).rounds }
     requires all { length ways.old ≡ (instance_in explanation.now.origin).rounds }
     ensures { ArePut explanation.now.origin device stay.now ways.old ways.new }
 {
+    if !waits_above && stay.device != device {
+        return;
+    }
     if !is_near(explanation.config(), device, stay) {
         return;
     }

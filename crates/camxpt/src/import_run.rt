@@ -28,6 +28,7 @@ use capture_file::{
     SortedReader, TableForm, TableReader, Tolerance, read_lines,
 };
 use clap::ArgMatches;
+use either::{Left, Right};
 use recording_file::{Recording, Span, WriteFault, write_recording};
 use slots::SlotsFault;
 use std::alloc::{AllocError, Global};
@@ -118,43 +119,37 @@ pub struct Files<'r, 'w, 'a, R> {
 impl<R: Runtime + AllocGlobal> Files<'_, '_, '_, R> {
     // Reads all of them.
     fn read(&self, options: &ImportOptions, refused: &mut Refused) -> Result<Read, ImportFault> {
-        let alloc = self.rt.alloc();
-        match options.kind {
-            Kind::Blkparse => self.read_events(options, EventForm::Blkparse, refused),
-            Kind::Tracepoints => self.read_events(options, EventForm::Tracepoints, refused),
-            Kind::Csv(unit) => self.read_table(options, TableForm::Csv(unit), refused),
-            Kind::Biosnoop => self.read_table(options, TableForm::Biosnoop, refused),
-            Kind::Fio => {
-                let mut reader = FioReader::new(alloc, &options.taken);
-                self.read_logs(&mut reader, refused)?;
-                Ok(reader.finish()?)
-            }
+        if let Some(mut reader) = self.reader(options) {
+            self.read_each(&mut reader, refused)?;
+            return Ok(reader.finish()?);
         }
-    }
-
-    fn read_events(
-        &self,
-        options: &ImportOptions,
-        form: EventForm,
-        refused: &mut Refused,
-    ) -> Result<Read, ImportFault> {
-        let mut reader = EventReader::new(self.rt.alloc(), &options.taken, form);
-        self.read_each(&mut reader, refused)?;
+        let mut reader = FioReader::new(self.rt.alloc(), &options.taken);
+        self.read_logs(&mut reader, refused)?;
         Ok(reader.finish()?)
     }
 
-    fn read_table(
-        &self,
-        options: &ImportOptions,
-        form: TableForm,
-        refused: &mut Refused,
-    ) -> Result<Read, ImportFault> {
-        let mut reader = TableReader::new(self.rt.alloc(), &options.taken, form);
-        self.read_each(&mut reader, refused)?;
-        Ok(reader.finish()?)
+    // A reader of their kind. None of fio's logs, which come job by job.
+    fn reader<'o>(&self, options: &'o ImportOptions) -> Option<SortedReader<'o>> {
+        let (alloc, taken) = (self.rt.alloc(), &options.taken);
+        Some(match options.kind {
+            Kind::Blkparse => {
+                SortedReader::Events(EventReader::new(alloc, taken, EventForm::Blkparse))
+            }
+            Kind::Tracepoints => {
+                SortedReader::Events(EventReader::new(alloc, taken, EventForm::Tracepoints))
+            }
+            Kind::Csv(unit) => {
+                SortedReader::Table(TableReader::new(alloc, taken, TableForm::Csv(unit)))
+            }
+            Kind::Biosnoop => {
+                SortedReader::Table(TableReader::new(alloc, taken, TableForm::Biosnoop))
+            }
+            Kind::Fio => return None,
+        })
     }
 
-    /// Hands each window of the capture to the sink as soon as it is over, also what was read before a fault.
+    /// Hands each window of the capture to the sink as soon as it is over, also what was read before a fault. Says at the end which
+    /// lines were refused, and how many requests were started before they arrived.
     pub fn read_windows<S: WindowSink>(
         &self,
         options: &ImportOptions,
@@ -162,38 +157,20 @@ impl<R: Runtime + AllocGlobal> Files<'_, '_, '_, R> {
         sink: &mut S,
         refused: &mut Refused,
     ) -> Result<(), ImportFault> {
-        let (alloc, taken) = (self.rt.alloc(), &options.taken);
-        match options.kind {
-            Kind::Blkparse => {
-                let reader = EventReader::new(alloc, taken, EventForm::Blkparse);
-                self.cut(options, window, reader, sink, refused)
-            }
-            Kind::Tracepoints => {
-                let reader = EventReader::new(alloc, taken, EventForm::Tracepoints);
-                self.cut(options, window, reader, sink, refused)
-            }
-            Kind::Csv(unit) => {
-                let reader = TableReader::new(alloc, taken, TableForm::Csv(unit));
-                self.cut(options, window, reader, sink, refused)
-            }
-            Kind::Biosnoop => Err(ImportFault::NamedArgument(WordFault::Ended)),
-            Kind::Fio => Err(ImportFault::NamedArgument(WordFault::Logs)),
+        if let Kind::Biosnoop = options.kind {
+            return Err(ImportFault::NamedArgument(WordFault::Ended));
         }
-    }
-
-    fn cut<T: SortedReader + Drop, S: WindowSink>(
-        &self,
-        options: &ImportOptions,
-        window: u64,
-        reader: T,
-        sink: &mut S,
-        refused: &mut Refused,
-    ) -> Result<(), ImportFault> {
+        let Some(reader) = self.reader(options) else {
+            return Err(ImportFault::NamedArgument(WordFault::Logs));
+        };
         let mut cutting = WindowReader::new(self.rt.alloc(), options, window, reader, sink);
         let read = self.read_each(&mut cutting, refused);
-        let finished = cutting.finish();
+        let cut = cutting.finish();
         read?;
-        finished
+        let counts = cut?;
+        tell_refused(self.rt, self.words, refused);
+        tell_early(self.rt, &counts);
+        Ok(())
     }
 
     fn read_each<T: LineReader>(
@@ -244,15 +221,15 @@ impl<R: Runtime + AllocGlobal> Files<'_, '_, '_, R> {
     ) -> Result<bool, ImportFault> {
         let rt = self.rt;
         refused.begin_input(place);
-        let done = if name == STANDARD_INPUT {
-            read_lines(rt.alloc(), &mut rt.reader(), refused, reader)
+        let mut input = if name == STANDARD_INPUT {
+            Right(rt.reader())
         } else {
             match File::open(rt, name) {
-                Ok(mut file) => read_lines(rt.alloc(), &mut file, refused, reader),
+                Ok(file) => Left(file),
                 Err(error) => return Err(ImportFault::CannotOpen(place, error)),
             }
         };
-        match done {
+        match read_lines(rt.alloc(), &mut input, refused, reader) {
             Ok(has_text) => Ok(has_text),
             Err(ReadFault::Line(_, _)) => {
                 not_too_many(refused)?;

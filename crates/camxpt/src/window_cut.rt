@@ -35,13 +35,13 @@ pub struct CutWindow {
 }
 
 /// The recording of what was taken for a window, and what its requests waited before it. None if nothing was started.
-pub fn recording_of_window<T: SortedReader>(
+pub fn recording_of_window(
     alloc: Global,
     options: &ImportOptions,
     round: Span,
     rounds: Rounds,
     until: u64,
-    reader: &T,
+    reader: &SortedReader<'_>,
     taken: &Taken,
 ) -> Result<Option<(Recording, u64)>, ImportFault> {
     if taken.requests.is_empty() {

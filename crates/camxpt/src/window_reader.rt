@@ -5,7 +5,7 @@ use crate::import_options::ImportOptions;
 use crate::import_words::value_of;
 use crate::window_cut::{CutWindow, recording_of_window};
 use capture::{CaptureFault, TimedRequest, longest_round, span_nanoseconds, usual_round};
-use capture_file::{LineFault, LineReader, SLACK, SortedReader};
+use capture_file::{Counts, LineFault, LineReader, SLACK, SortedReader};
 use capture_windows::{Attempt, MAX_WINDOW_ROUNDS, Taken, TimeSpan, Window, WindowFault, Windows};
 use recording_file::{MAX_REQUESTS, Span};
 use std::alloc::{AllocError, Global};
@@ -35,13 +35,13 @@ struct Grid {
 
 /// Hands lines to a reader, and each window to a sink as soon as it is over.
 #[derive(Drop)]
-pub struct WindowReader<'a, T, S> {
+pub struct WindowReader<'a, 's, S> {
     alloc: Global,
     options: &'a ImportOptions,
     // How long a window is, in nanoseconds.
     window: u64,
-    reader: T,
-    sink: &'a mut S,
+    reader: SortedReader<'a>,
+    sink: &'s mut S,
     grid: Option<Grid>,
     // Up to when the reader has to come before there is something to do.
     due: u64,
@@ -49,15 +49,15 @@ pub struct WindowReader<'a, T, S> {
     fault: Option<ImportFault>,
 }
 
-impl<'a, T: SortedReader + Drop, S: WindowSink> WindowReader<'a, T, S> {
+impl<'a, 's, S: WindowSink> WindowReader<'a, 's, S> {
     /// No window yet. Windows have so many nanoseconds, but a whole number of rounds.
     pub fn new(
         alloc: Global,
         options: &'a ImportOptions,
         window: u64,
-        reader: T,
-        sink: &'a mut S,
-    ) -> WindowReader<'a, T, S> {
+        reader: SortedReader<'a>,
+        sink: &'s mut S,
+    ) -> WindowReader<'a, 's, S> {
         WindowReader {
             alloc,
             options,
@@ -71,8 +71,8 @@ impl<'a, T: SortedReader + Drop, S: WindowSink> WindowReader<'a, T, S> {
         }
     }
 
-    /// Hands the sink what is left, up to the last start.
-    pub fn finish(mut self) -> Result<(), ImportFault> {
+    /// Hands the sink what is left, up to the last start. Answers what was read.
+    pub fn finish(mut self) -> Result<Counts, ImportFault> {
         if let Some(fault) = self.fault {
             return Err(fault);
         }
@@ -84,7 +84,7 @@ impl<'a, T: SortedReader + Drop, S: WindowSink> WindowReader<'a, T, S> {
         if self.number == 0 {
             return Err(CaptureFault::NothingStarted.into());
         }
-        Ok(())
+        Ok(self.reader.counts())
     }
 
     // Does what is due at the reader's time.
@@ -268,7 +268,7 @@ impl<'a, T: SortedReader + Drop, S: WindowSink> WindowReader<'a, T, S> {
     }
 }
 
-impl<T: SortedReader + Drop, S: WindowSink> LineReader for WindowReader<'_, T, S> {
+impl<S: WindowSink> LineReader for WindowReader<'_, '_, S> {
     fn take(&mut self, line: &[u8]) -> Result<(), LineFault> {
         self.reader.take(line)?;
         if self.options.taken.is_sorted

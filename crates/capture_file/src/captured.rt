@@ -54,3 +54,10 @@ pub struct Counts {
     /// Earlier runs of fio in an iolog to which a later one was appended. They are left out.
     pub dropped_runs: u64,
 }
+
+impl Counts {
+    /// Counts a line that was refused and is left out.
+    pub(crate) fn count_refused(&mut self) {
+        self.refused_lines = self.refused_lines.saturating_add(1);
+    }
+}

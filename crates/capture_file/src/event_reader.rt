@@ -5,12 +5,11 @@ use crate::block_event::{Action, Event, Extent, RequestEvent};
 use crate::captured::{Capture, Counts};
 use crate::finishing::{Drivers, capture_of};
 use crate::line_fault::LineFault;
-use crate::line_reader::LineReader;
-use crate::names::Names;
 use crate::options::{DriverBy, Options, Priorities, SKEW, SLACK};
+use crate::own_devices::OwnDevices;
 use crate::priority::{USUAL, flags_priority};
 use crate::sizes::Sizes;
-use crate::sorted_reader::{SortedReader, push_parts};
+use crate::sorted_reader::push_parts;
 use crate::tracepoint_line::tracepoint_of;
 use capture::TimedRequest;
 use capture_windows::{Attempt, TimeSpan, goes_on};
@@ -23,14 +22,6 @@ const NO_TAG: Tag = Tag {
     driver: 0,
     priority: USUAL,
 };
-
-// A device by its own name: the number of the one as which it is listed, and what was counted.
-#[derive(Clone, Copy)]
-struct OwnDevice {
-    listed: u32,
-    starts: u64,
-    ends_without_start: u64,
-}
 
 /// What kind of text events are.
 #[derive(Clone, Copy, PartialEq, Eq)]
@@ -53,22 +44,22 @@ pub struct EventReader<'a> {
     alloc: Global,
     options: &'a Options,
     form: EventForm,
-    listed: Names,
-    own_names: Names,
-    own: Vec<OwnDevice>,
-    drivers: Drivers,
+    pub(crate) devices: OwnDevices,
+    pub(crate) drivers: Drivers,
     requests: Requests,
     // The ids of the attempts that were given away last, and of those in flight how many were when they were started.
     given: Vec<u64>,
     numbers: BTreeMap<u64, u32>,
-    // The priorities by their I/O classes of those that were started with one.
+    // The priorities by their I/O classes of those that were started with another one than they arrived with.
     classes: BTreeMap<u64, u32>,
     sizes: Sizes,
-    last_time: u64,
+    // The latest time of a line.
+    pub(crate) last_time: u64,
     // When to look next whether all that is taken has ended.
     next_look: Option<u64>,
-    is_done: bool,
-    counts: Counts,
+    // Whether all that arrived before the end of what is taken has ended.
+    pub(crate) is_done: bool,
+    pub(crate) counts: Counts,
 }
 
 impl<'a> EventReader<'a> {
@@ -78,9 +69,7 @@ impl<'a> EventReader<'a> {
             alloc,
             options,
             form,
-            listed: Names::new(alloc),
-            own_names: Names::new(alloc),
-            own: Vec::new(alloc),
+            devices: OwnDevices::new(alloc),
             drivers: Drivers::new(alloc),
             requests: Requests::new(alloc, SKEW),
             given: Vec::new(alloc),
@@ -100,7 +89,7 @@ impl<'a> EventReader<'a> {
     ///
     /// `TooManyDevices` if more than 32 devices have requests, `OutOfMemory` if no memory is left.
     pub fn finish(self) -> Result<Capture, LineFault> {
-        let mut counts = counts_with(self.counts, &self.own);
+        let mut counts = self.devices.counted(self.counts);
         let (mut requests, mut flights) = (Vec::new(self.alloc), Vec::new(self.alloc));
         for tried in self.requests.attempts().values() {
             match self.attempt(tried) {
@@ -122,7 +111,7 @@ impl<'a> EventReader<'a> {
             self.options,
             requests,
             flights,
-            self.listed.list(),
+            self.devices.listed(),
             self.drivers.list(),
             &self.sizes,
             counts,
@@ -131,7 +120,7 @@ impl<'a> EventReader<'a> {
 
     // An attempt as one at the device as which its own is listed; none if nothing was started at that.
     fn attempt(&self, tried: &Tried) -> Option<Attempt> {
-        let device = listed_with_starts(&self.own, tried.place.device)?;
+        let device = self.devices.listed_with_starts(tried.place.device)?;
         let (started, retried, completed) = match tried.state {
             State::Waiting => (None, None, None),
             State::InFlight { start } => (Some(start), None, None),
@@ -150,20 +139,12 @@ impl<'a> EventReader<'a> {
                 completed,
                 driver: tag.driver,
                 device,
-                priority: self.priority_of(tried.id, tag),
+                priority: self.classes.get(&tried.id).copied().unwrap_or(tag.priority),
             },
             is_taken: tried.arrival.is_some() && self.options.takes_time(arrival),
             has_slot: tried.place.sector.is_some(),
             number: self.numbers.get(&tried.id).copied().unwrap_or(0),
         })
-    }
-
-    // That of its driver if that has one of its own, else that of its I/O class, if it has one.
-    fn priority_of(&self, id: u64, tag: Tag) -> u32 {
-        match self.classes.get(&id) {
-            Some(class) if self.drivers.own(tag.driver).is_none() => *class,
-            _ => tag.priority,
-        }
     }
 
     // A second after the end of what is taken, and each second then: whether all that arrived before it has ended.
@@ -183,7 +164,7 @@ impl<'a> EventReader<'a> {
     }
 
     fn apply(&mut self, time: u64, event: RequestEvent<'_>) -> Result<(), LineFault> {
-        let Some(device) = self.device(event.device)? else {
+        let Some(device) = self.devices.number(self.options, event.device)? else {
             self.pass_other(event.action);
             return Ok(());
         };
@@ -218,12 +199,12 @@ impl<'a> EventReader<'a> {
                 self.requests.merge_front(place, behind(place, sectors))?;
             }
             Action::Starts => {
-                count_start(&mut self.own, device);
+                self.devices.count_start(device);
                 let tried = self.requests.start(place, time)?;
-                if let (Some(tried), Some(class)) = (tried, event.priority)
+                if let (Some(tried), Some(priority)) = (tried, event.priority)
                     && self.options.priorities == Priorities::Class
                 {
-                    self.classes.insert(tried.id, class)?;
+                    self.note_class(tried, priority)?;
                 }
                 match arrival_of(tried) {
                     Some(arrival) => self.count_size(arrival, device, sectors)?,
@@ -237,38 +218,22 @@ impl<'a> EventReader<'a> {
             }
             Action::Completes => match self.requests.complete(place, time) {
                 Ending::Completed(tried) if tried.arrival.is_some() => {}
-                Ending::NeverStarted(_) => count_end(&mut self.own, device),
+                Ending::NeverStarted(_) => self.devices.count_end(device),
                 Ending::Completed(_) | Ending::Unknown => self.count_stray(),
             },
         }
         Ok(())
     }
 
-    // The number of a device among those of its kind of name. None: it isn't taken.
-    fn device(&mut self, name: &[u8]) -> Result<Option<usize>, LineFault> {
-        if let Some(number) = self.own_names.number_of(name) {
-            return Ok(Some(number));
+    // Keeps the priority by the I/O class that a start has, unless its request arrived with the same, or its driver has one of its own.
+    fn note_class(&mut self, tried: Tried, priority: u32) -> Result<(), AllocError> {
+        let is_known = tried.arrival.is_some_and(|arrival| {
+            arrival.tag.priority == priority || self.drivers.own(arrival.tag.driver).is_some()
+        });
+        if !is_known {
+            self.classes.insert(tried.id, priority)?;
         }
-        match self.options.listed_device(name) {
-            None => Ok(None),
-            Some(listed) => Ok(Some(self.add_device(name, listed)?)),
-        }
-    }
-
-    fn add_device(&mut self, name: &[u8], listed: &[u8]) -> Result<usize, LineFault> {
-        let number = match self.listed.number_of(listed) {
-            Some(number) => number,
-            None => self.listed.add(listed)?,
-        };
-        let Ok(listed) = u32::try_from(number) else {
-            return Err(LineFault::TooManyDevices(number));
-        };
-        self.own.push(OwnDevice {
-            listed,
-            starts: 0,
-            ends_without_start: 0,
-        })?;
-        Ok(self.own_names.add(name)?)
+        Ok(())
     }
 
     // An event of a device that isn't taken.
@@ -281,7 +246,7 @@ impl<'a> EventReader<'a> {
     // A command of `SG_IO` has no arrival.
     fn pass_command(&mut self, device: usize, action: Action) {
         if action == Action::Starts {
-            count_start(&mut self.own, device);
+            self.devices.count_start(device);
         }
         if action != Action::Arrives {
             self.count_stray();
@@ -310,6 +275,9 @@ impl<'a> EventReader<'a> {
         if let Came::Started(id) = self.requests.arrive(place, time, Tag { driver, priority })? {
             self.counts.without_arrival = self.counts.without_arrival.saturating_sub(1);
             self.counts.early_starts = self.counts.early_starts.saturating_add(1);
+            if own.is_some() {
+                self.classes.remove(&id);
+            }
             if let Some(arrival) = arrival_of(self.requests.get(id)) {
                 self.count_size(arrival, place.device as usize, sectors)?;
             }
@@ -318,10 +286,8 @@ impl<'a> EventReader<'a> {
     }
 
     fn count_size(&mut self, arrival: u64, device: usize, sectors: u64) -> Result<(), AllocError> {
-        match self.own.get(device) {
-            Some(device) if self.options.takes_time(arrival) => {
-                self.sizes.add(device.listed, sectors)
-            }
+        match self.devices.listed_as(device) {
+            Some(device) if self.options.takes_time(arrival) => self.sizes.add(device, sectors),
             _ => Ok(()),
         }
     }
@@ -329,15 +295,13 @@ impl<'a> EventReader<'a> {
     fn count_stray(&mut self) {
         self.counts.without_arrival = self.counts.without_arrival.saturating_add(1);
     }
-}
 
-impl LineReader for EventReader<'_> {
     /// Takes a line. What isn't an event of a block device that is taken is passed over.
     ///
     /// # Errors
     ///
     /// `NotAnEvent`, `BadNumber`, `TimeFalls` and `TooManyDrivers`, or `OutOfMemory`.
-    fn take(&mut self, line: &[u8]) -> Result<(), LineFault> {
+    pub(crate) fn take(&mut self, line: &[u8]) -> Result<(), LineFault> {
         self.counts.lines = self.counts.lines.saturating_add(1);
         let event = match self.form {
             EventForm::Blkparse => event_of(line)?,
@@ -358,22 +322,8 @@ impl LineReader for EventReader<'_> {
         }
     }
 
-    fn count_refused(&mut self) {
-        self.counts.refused_lines = self.counts.refused_lines.saturating_add(1);
-    }
-
-    /// Whether all that arrived before the end of what is taken has ended.
-    fn is_done(&self) -> bool {
-        self.is_done
-    }
-}
-
-impl SortedReader for EventReader<'_> {
-    fn time(&self) -> u64 {
-        self.last_time
-    }
-
-    fn take_attempts(&mut self) -> Result<Vec<Attempt>, AllocError> {
+    /// Gives away all attempts that are known, in the order of their arrivals.
+    pub(crate) fn take_attempts(&mut self) -> Result<Vec<Attempt>, AllocError> {
         let mut list = Vec::new(self.alloc);
         let mut given = Vec::new(self.alloc);
         for tried in self.requests.attempts().values() {
@@ -386,11 +336,12 @@ impl SortedReader for EventReader<'_> {
         Ok(list)
     }
 
-    fn take_back(
+    /// Takes back those that go on after a window, of all that were given away.
+    pub(crate) fn take_back(
         &mut self,
         all: &[Attempt],
         window: TimeSpan,
-        going_on: Vec<Attempt>,
+        going_on: &[Attempt],
     ) -> Result<(), AllocError> {
         let given = std::mem::replace(&mut self.given, Vec::new(self.alloc));
         let mut staying = going_on.iter();
@@ -408,18 +359,6 @@ impl SortedReader for EventReader<'_> {
             }
         }
         Ok(())
-    }
-
-    fn devices(&self) -> &[Vec<u8>] {
-        self.listed.list()
-    }
-
-    fn drivers(&self) -> &[Vec<u8>] {
-        self.drivers.list()
-    }
-
-    fn counts(&self) -> Counts {
-        self.counts
     }
 }
 
@@ -454,43 +393,5 @@ fn usual_priority(priorities: Priorities, flags: &[u8]) -> u32 {
     match priorities {
         Priorities::Class | Priorities::Direction => flags_priority(flags),
         Priorities::Flat => USUAL,
-    }
-}
-
-fn count_start(own: &mut Vec<OwnDevice>, device: usize) {
-    if let Some(device) = own.get_mut(device) {
-        device.starts = device.starts.saturating_add(1);
-    }
-}
-
-fn count_end(own: &mut Vec<OwnDevice>, device: usize) {
-    if let Some(device) = own.get_mut(device) {
-        device.ends_without_start = device.ends_without_start.saturating_add(1);
-    }
-}
-
-fn counts_with(counts: Counts, own: &[OwnDevice]) -> Counts {
-    let mut counts = counts;
-    for device in own {
-        count_device(&mut counts, *device);
-    }
-    counts
-}
-
-fn count_device(counts: &mut Counts, device: OwnDevice) {
-    let ends = device.ends_without_start;
-    if device.starts > 0 {
-        counts.without_start = counts.without_start.saturating_add(ends);
-    } else {
-        counts.devices_without_starts = counts.devices_without_starts.saturating_add(1);
-        counts.requests_without_starts = counts.requests_without_starts.saturating_add(ends);
-    }
-}
-
-// The number by which a device is listed, if it has starts.
-fn listed_with_starts(own: &[OwnDevice], device: u32) -> Option<u32> {
-    match own.get(device as usize) {
-        Some(device) if device.starts > 0 => Some(device.listed),
-        _ => None,
     }
 }

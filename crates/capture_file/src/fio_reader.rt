@@ -203,17 +203,9 @@ impl<'a> FioReader<'a> {
     // None: it isn't taken.
     fn taken_device(&mut self, file: &[u8]) -> Result<Option<u32>, LineFault> {
         match self.options.listed_device(file) {
-            Some(name) => Ok(Some(self.device(name)?)),
+            Some(name) => Ok(Some(self.devices.device(name)?)),
             None => Ok(None),
         }
-    }
-
-    fn device(&mut self, name: &[u8]) -> Result<u32, LineFault> {
-        let number = match self.devices.number_of(name) {
-            Some(number) => number,
-            None => self.devices.add(name)?,
-        };
-        u32::try_from(number).map_err(|_| LineFault::TooManyDevices(number))
     }
 
     fn record(&mut self, job: usize, line: &[u8]) -> Result<(), LineFault> {
@@ -251,7 +243,7 @@ impl LineReader for FioReader<'_> {
     }
 
     fn count_refused(&mut self) {
-        self.counts.refused_lines = self.counts.refused_lines.saturating_add(1);
+        self.counts.count_refused();
     }
 }
 

@@ -31,6 +31,7 @@ mod line_reader;
 mod names;
 mod number;
 mod options;
+mod own_devices;
 mod priority;
 mod queues;
 mod quotes;

@@ -150,8 +150,11 @@ pub fn read_lines<R: Read, T: LineReader>(
     };
     let mut lines = Lines::new(alloc, refused);
     for _ in 0..u64::MAX {
+        if reader.is_done() {
+            break;
+        }
         let count = read_some(input, chunk.as_mut_slice())?;
-        if count == 0 || reader.is_done() {
+        if count == 0 {
             break;
         }
         lines.take(chunk.get(..count).unwrap_or(b""), reader)?;

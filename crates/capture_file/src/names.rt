@@ -1,5 +1,6 @@
 //! Names, numbered by first appearance.
 
+use crate::line_fault::LineFault;
 use std::alloc::{AllocError, Global};
 use std::collections::BTreeMap;
 
@@ -29,6 +30,15 @@ impl Names {
     /// How many names there are.
     pub fn len(&self) -> usize {
         self.list.len()
+    }
+
+    /// The number of a device, which is added if it is new.
+    pub fn device(&mut self, name: &[u8]) -> Result<u32, LineFault> {
+        let number = match self.number_of(name) {
+            Some(number) => number,
+            None => self.add(name)?,
+        };
+        u32::try_from(number).map_err(|_| LineFault::TooManyDevices(number))
     }
 
     /// Adds a name that is new, and answers its number.

@@ -6,16 +6,15 @@ use crate::columns::{Columns, columns_of, other_columns};
 use crate::csv_row::csv_row;
 use crate::finishing::{Drivers, capture_of};
 use crate::line_fault::LineFault;
-use crate::line_reader::LineReader;
 use crate::names::Names;
 use crate::options::{CsvTimeUnit, Options, Priorities, SLACK};
 use crate::priority::{USUAL, flags_priority};
 use crate::quotes::are_quotes_whole;
 use crate::row::Row;
 use crate::sizes::Sizes;
-use crate::sorted_reader::{SortedReader, requests_and_flights};
+use crate::sorted_reader::requests_and_flights;
 use capture::TimedRequest;
-use capture_windows::{Attempt, TimeSpan};
+use capture_windows::Attempt;
 use csv::{ByteRecord, ReaderBuilder};
 use std::alloc::{AllocError, Global};
 
@@ -45,13 +44,13 @@ pub struct TableReader<'a> {
     form: TableForm,
     columns: Option<Columns>,
     other_columns: Vec<String>,
-    devices: Names,
-    drivers: Drivers,
-    attempts: Vec<Attempt>,
+    pub(crate) devices: Names,
+    pub(crate) drivers: Drivers,
+    pub(crate) attempts: Vec<Attempt>,
     sizes: Sizes,
     // The latest arrival.
-    time: u64,
-    counts: Counts,
+    pub(crate) time: u64,
+    pub(crate) counts: Counts,
 }
 
 impl<'a> TableReader<'a> {
@@ -155,7 +154,7 @@ impl<'a> TableReader<'a> {
         } else {
             (0, None)
         };
-        let device = self.device(device)?;
+        let device = self.devices.device(device)?;
         self.count(&row, device, is_in_time)?;
         let usual = usual_priority(self.options.priorities, row.priority, row.flags);
         self.attempts.push(Attempt {
@@ -190,16 +189,6 @@ impl<'a> TableReader<'a> {
         Ok(())
     }
 
-    fn device(&mut self, name: &[u8]) -> Result<u32, LineFault> {
-        let number = match self.devices.number_of(name) {
-            Some(number) => number,
-            None => self.devices.add(name)?,
-        };
-        u32::try_from(number).map_err(|_| LineFault::TooManyDevices(number))
-    }
-}
-
-impl LineReader for TableReader<'_> {
     /// Takes a line. Blank lines are passed over.
     ///
     /// # Errors
@@ -207,7 +196,7 @@ impl LineReader for TableReader<'_> {
     /// Of CSV `DoubleColumn`, `MissingColumn` and `MissingDriver` of the header; `SecondHeader`, `BadRecord` and `EndedUnstarted` of the
     /// other lines; `BadQuotes`. Of `biosnoop` `NotAnEvent` and `NoWaits`. Of both `BadNumber`, `StartedEarly`, `EndedEarly`,
     /// `TimeFallsFar`, `TooManyDrivers` and `OutOfMemory`.
-    fn take(&mut self, line: &[u8]) -> Result<(), LineFault> {
+    pub(crate) fn take(&mut self, line: &[u8]) -> Result<(), LineFault> {
         self.counts.lines = self.counts.lines.saturating_add(1);
         if line.trim_ascii().is_empty() {
             return Ok(());
@@ -221,49 +210,18 @@ impl LineReader for TableReader<'_> {
         }
     }
 
-    fn count_refused(&mut self) {
-        self.counts.refused_lines = self.counts.refused_lines.saturating_add(1);
-    }
-
     /// Whether all that arrives before the end of what is taken was read.
-    fn is_done(&self) -> bool {
+    pub(crate) fn is_done(&self) -> bool {
         self.form != TableForm::Biosnoop
             && self
                 .options
                 .last_arrival()
                 .is_some_and(|last| last <= self.time)
     }
-}
 
-impl SortedReader for TableReader<'_> {
-    fn time(&self) -> u64 {
-        self.time
-    }
-
-    fn take_attempts(&mut self) -> Result<Vec<Attempt>, AllocError> {
-        Ok(std::mem::replace(&mut self.attempts, Vec::new(self.alloc)))
-    }
-
-    fn take_back(
-        &mut self,
-        _all: &[Attempt],
-        _window: TimeSpan,
-        going_on: Vec<Attempt>,
-    ) -> Result<(), AllocError> {
-        self.attempts = going_on;
-        Ok(())
-    }
-
-    fn devices(&self) -> &[Vec<u8>] {
-        self.devices.list()
-    }
-
-    fn drivers(&self) -> &[Vec<u8>] {
-        self.drivers.list()
-    }
-
-    fn counts(&self) -> Counts {
-        self.counts
+    /// Gives away all attempts that are known, in the order of their arrivals.
+    pub(crate) fn take_attempts(&mut self) -> Vec<Attempt> {
+        std::mem::replace(&mut self.attempts, Vec::new(self.alloc))
     }
 }
 

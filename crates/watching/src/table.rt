@@ -8,7 +8,7 @@ use wording::{Page, nanoseconds, push_nanoseconds, push_number, push_share, shor
 
 /// What stands above the columns.
 pub const TABLE_HEAD: &str =
-    "from      to          requests     waited  avoidable     order  idle slots        p99  costliest\n";
+    "from        to            requests     waited  avoidable     order  idle slots        p99  costliest\n";
 
 /// The row of a window, or of all of them: from when to when it is, how many requests were started in it, how long they waited, which
 /// share of what that cost could have been avoided, by order and by idle slots, what 99 of a hundred waits don't pass, and which driver
@@ -38,14 +38,16 @@ pub fn table_row(alloc: Global, window: Window<'_>, sums: &Sums) -> Result<Strin
     page.finish()
 }
 
-// Hours, minutes and seconds since the capture began.
+// Hours, minutes, seconds and tenths of a second since the capture began: the nearest.
 fn clock(alloc: Global, time: u64, origin: u64) -> Result<String, AllocError> {
-    let seconds = time.saturating_sub(origin) / 1_000_000_000;
+    let tenths = time.saturating_sub(origin).saturating_add(50_000_000) / 100_000_000;
+    let seconds = tenths / 10;
     format!(in alloc;
-        "{}:{:02}:{:02}",
+        "{}:{:02}:{:02}.{}",
         seconds / 3_600,
         seconds / 60 % 60,
-        seconds % 60
+        seconds % 60,
+        tenths % 10
     )
 }
 

@@ -13,7 +13,7 @@ use crate::sorted_reader::push_parts;
 use crate::tracepoint_line::tracepoint_of;
 use capture::TimedRequest;
 use capture_windows::{Attempt, TimeSpan, goes_on};
-use request_events::{Attempt as Tried, Came, Ending, Place, Requests, State, Tag};
+use request_events::{Arrival, Attempt as Tried, Came, Ending, Place, Requests, State, Tag};
 use std::alloc::{AllocError, Global};
 use std::collections::BTreeMap;
 
@@ -50,7 +50,7 @@ pub struct EventReader<'a> {
     // The ids of the attempts that were given away last, and of those in flight how many were when they were started.
     given: Vec<u64>,
     numbers: BTreeMap<u64, u32>,
-    // The priorities by their I/O classes of those that were started with another one than they arrived with.
+    // The priorities by their I/O classes of those that were started, and whose arrivals weren't seen yet.
     classes: BTreeMap<u64, u32>,
     sizes: Sizes,
     // The latest time of a line.
@@ -139,7 +139,7 @@ impl<'a> EventReader<'a> {
                 completed,
                 driver: tag.driver,
                 device,
-                priority: self.classes.get(&tried.id).copied().unwrap_or(tag.priority),
+                priority: tag.priority,
             },
             is_taken: tried.arrival.is_some() && self.options.takes_time(arrival),
             has_slot: tried.place.sector.is_some(),
@@ -225,13 +225,17 @@ impl<'a> EventReader<'a> {
         Ok(())
     }
 
-    // Keeps the priority by the I/O class that a start has, unless its request arrived with the same, or its driver has one of its own.
+    // Keeps the priority by the I/O class that a start has, unless its driver has one of its own.
     fn note_class(&mut self, tried: Tried, priority: u32) -> Result<(), AllocError> {
-        let is_known = tried.arrival.is_some_and(|arrival| {
-            arrival.tag.priority == priority || self.drivers.own(arrival.tag.driver).is_some()
-        });
-        if !is_known {
-            self.classes.insert(tried.id, priority)?;
+        match tried.arrival {
+            Some(Arrival { tag, .. }) => {
+                if self.drivers.own(tag.driver).is_none() {
+                    self.requests.retag(tried.id, Tag { priority, ..tag });
+                }
+            }
+            None => {
+                self.classes.insert(tried.id, priority)?;
+            }
         }
         Ok(())
     }
@@ -275,8 +279,10 @@ impl<'a> EventReader<'a> {
         if let Came::Started(id) = self.requests.arrive(place, time, Tag { driver, priority })? {
             self.counts.without_arrival = self.counts.without_arrival.saturating_sub(1);
             self.counts.early_starts = self.counts.early_starts.saturating_add(1);
-            if own.is_some() {
-                self.classes.remove(&id);
+            if let Some(priority) = self.classes.remove(&id)
+                && own.is_none()
+            {
+                self.requests.retag(id, Tag { driver, priority });
             }
             if let Some(arrival) = arrival_of(self.requests.get(id)) {
                 self.count_size(arrival, place.device as usize, sectors)?;

@@ -4,7 +4,8 @@ use Rattle.std.proofs.lemmas.Bool.Decides.{nat_tests}
 use Rattle.request_events.specs.declared.attempt.Arrival.{Arrival}
 use Rattle.request_events.specs.declared.attempt.Place.{Place}
 use Rattle.request_events.specs.Attempts.{Attempt, with_id, put, without}
-use Rattle.request_events.specs.Events.{Known, AreBelow, with_next}
+use Rattle.request_events.specs.declared.attempt.Tag.{Tag}
+use Rattle.request_events.specs.Events.{Known, AreBelow, with_next, with_tag, retagged}
 use Rattle.request_events.proofs.KeyLemmas.{cases}
 use Rattle.request_events.proofs.FirstLemmas.{all_at}
 
@@ -16,6 +17,10 @@ below_put n [] a low = tt
 below_put n (b ∷ rest) a low = cases (b.id == a.id)
     (λ t. rw t (subst (λ m. m < n) (number_is b.id a.id t) low.0, below_put n rest a low.1))
     (λ f. rw f (low.0, below_put n rest a low.1))
+
+pub below_retag : (n : ℕ) (all : List Attempt) (tag : Tag) (o : Option Attempt) → AreBelow n all → AreBelow n (retagged tag all o)
+below_retag n all tag None low = low
+below_retag n all tag (Some a) low = below_put n all (with_tag tag a) low
 
 pub below_without : (n : ℕ) (all : List Attempt) (id : ℕ) → AreBelow n all → AreBelow n (without id all)
 below_without n [] id low = tt

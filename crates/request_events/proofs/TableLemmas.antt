@@ -4,10 +4,15 @@ use Rattle.std.specs.List.{AllByRecursion}
 use Rattle.std.specs.Ordering.{is_eq, is_gt}
 use Rattle.std.proofs.lemmas.Bool.Decides.{nat_tests}
 use Rattle.std.proofs.lemmas.Cmp.{tied_itself}
+use Rattle.request_events.specs.declared.attempt.Arrival.{Arrival}
+use Rattle.request_events.specs.declared.attempt.Place.{Place}
+use Rattle.request_events.specs.declared.attempt.State.TheVariants.{Waiting, InFlight, Completed, PutBack}
+use Rattle.request_events.specs.declared.attempt.Tag.{Tag}
 use Rattle.request_events.specs.declared.spot.Queue.{Queue}
 use Rattle.request_events.specs.declared.spot.Spot.{Spot}
-use Rattle.request_events.specs.States.{start_of}
+use Rattle.request_events.specs.States.{State, start_of}
 use Rattle.request_events.specs.Attempts.{Attempt, IsRising, with_id, put, without}
+use Rattle.request_events.specs.Events.{tagged, with_tag}
 use Rattle.request_events.specs.Spots.{queue_cmp, spot_cmp, queue_of, spot_in, spot_of, is_at_spot, AreApart, is_spot_in, first_at}
 use Rattle.request_events.specs.Tables.{is_of, IsTied}
 use Rattle.request_events.proofs.KeyLemmas.{cases}
@@ -216,6 +221,27 @@ IsTied-put all f g a b was apart tied h = record {
       (λ n. let other : (b.id == q.id) ≡ false = rw (id_at all a.id b was) n in
       h q ∙ rw (elsewhere a q n, elsewhere b q other) (tied.each q ∙ sym (ap (λ r. is_of r q) (put_other all a q.id n))));
 }
+
+-- another tag changes no spot
+queue_retag : (place : Place) (tag : Tag) (arrival : Option Arrival) (state : State) → queue_of place (tagged tag arrival) state ≡ queue_of place arrival state
+queue_retag place tag None state = refl
+queue_retag place tag (Some arrival) Waiting = refl
+queue_retag place tag (Some arrival) (InFlight start) = refl
+queue_retag place tag (Some arrival) (Completed start end) = refl
+queue_retag place tag (Some arrival) (PutBack start end) = refl
+
+pub IsTied-retag : (all : List Attempt) (f : Spot → Bool) (tag : Tag) (b : Attempt) → with_id b.id all ≡ Some b → IsTied all f → IsTied (put (with_tag tag b) all) f
+IsTied-retag all f tag b was tied =
+    let a = with_tag tag b in
+    let same : spot_of a ≡ spot_of b = ap (spot_in (start_of b.state) b.id) (queue_retag b.place tag b.arrival b.state) in
+    record {
+      each = λ q. cases (a.id == q.id)
+          (λ t. let e = numbers_same a.id q.id t in
+          let before : f q ≡ is_at_spot (spot_of b) q = tied.each q ∙ ap (λ r. is_of r q) (subst (λ n. with_id n all ≡ Some b) e was) in
+          let found : with_id q.id (put a all) ≡ Some a = subst (λ n. with_id n (put a all) ≡ Some a) e (put_here all a b was) in
+          before ∙ ap (λ o. is_at_spot o q) (sym same) ∙ sym (ap (λ r. is_of r q) found))
+          (λ n. tied.each q ∙ sym (ap (λ r. is_of r q) (put_other all a q.id n)));
+    }
 
 pub AreApart-none : (b a : Attempt) → spot_of a ≡ None → AreApart b a
 AreApart-none b a e q t = ap (λ o. is_at_spot o q) e

@@ -10,7 +10,7 @@ use Rattle.request_events.specs.declared.requests.Came.TheVariants as came
 use Rattle.request_events.specs.declared.requests.Ending.{Ending}
 use Rattle.request_events.specs.declared.requests.Ending.TheVariants as ending
 use Rattle.request_events.specs.States.{State, start_of}
-use Rattle.request_events.specs.Attempts.{Attempt, put, without, is_same_place, first_waiting, first_in_flight, first_early}
+use Rattle.request_events.specs.Attempts.{Attempt, with_id, put, without, is_same_place, first_waiting, first_in_flight, first_early}
 
 -- the attempts in the order in which they came, the id of the next one, and by how much an arrival may come after its start
 pub record Known : Type 0 where
@@ -153,6 +153,23 @@ ending_as place time k (Some a) = ending.Completed (completed_at time a)
 
 abbrev pub ending_of : Place → ℕ → Known → Ending
 ending_of place time k = ending_as place time k (first_in_flight place k.attempts)
+
+-- ---- another tag
+
+abbrev pub tagged : Tag → Option Arrival → Option Arrival
+tagged tag None = None
+tagged tag (Some arrival) = Some (record { time = arrival.time; tag = tag })
+
+abbrev pub with_tag : Tag → Attempt → Attempt
+with_tag tag a = record a { arrival = tagged tag a.arrival }
+
+-- of an attempt, if there is one
+abbrev pub retagged : Tag → List Attempt → Option Attempt → List Attempt
+retagged tag all None = all
+retagged tag all (Some a) = put (with_tag tag a) all
+
+abbrev pub after_tagging : ℕ → Tag → Known → Known
+after_tagging id tag k = record k { attempts = retagged tag k.attempts (with_id id k.attempts) }
 
 -- ---- forgetting
 

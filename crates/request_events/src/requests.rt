@@ -5,7 +5,7 @@ ghost use Rattle.std.specs.BTreeMap.{keys, values};
 ghost use Rattle.request_events.specs.declared.attempt.Attempt.{Attempt};
 ghost use Rattle.request_events.specs.States.{is_waiting};
 ghost use Rattle.request_events.specs.Attempts.{IsRising, ids, with_id, is_same_place, is_early_at, first_waiting};
-ghost use Rattle.request_events.specs.Events.{AreBelow, add, added, after_arrival, arrival_of, started_before, waiting_behind, with_next, after_merge_back, after_merge_front, behind_of, after_start, started, after_put_back, put_back, after_completion, ending_of, after_forgetting};
+ghost use Rattle.request_events.specs.Events.{AreBelow, add, added, after_arrival, arrival_of, started_before, waiting_behind, with_next, after_merge_back, after_merge_front, behind_of, after_start, started, after_put_back, put_back, after_completion, ending_of, after_tagging, after_forgetting};
 
 use crate::attempt::{Arrival, Attempt, Place, State, Tag};
 use crate::table::Table;
@@ -205,6 +205,14 @@ impl Requests {
         let attempt = Attempt { state, ..before };
         self.table.end(before, attempt);
         Ending::Completed(attempt)
+    }
+
+    /// Says this of the attempt of an id from now on, if there is one and its arrival is known. Its next attempt, if it is put back,
+    /// has the same tag.
+    pub fn retag(&mut self, id: u64, tag: Tag)
+        ensures { self.new ≡ after_tagging id tag self.old }
+    {
+        self.table.retag(id, tag);
     }
 
     /// Leaves out the attempt of an id, if there is one: no event is of it any more.

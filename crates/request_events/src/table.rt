@@ -7,9 +7,10 @@ ghost use Rattle.std.specs.BTreeSet.{contains};
 ghost use Rattle.request_events.specs.declared.attempt.Attempt.{Attempt};
 ghost use Rattle.request_events.specs.declared.spot.Spot.{Spot};
 ghost use Rattle.request_events.specs.Attempts.{IsRising, ids, with_id, put, without, waits_at, is_early_at, first_waiting, first_in_flight, first_early};
+ghost use Rattle.request_events.specs.Events.{retagged, tagged};
 ghost use Rattle.request_events.specs.Spots.{spot_of, spot_cmp, is_at_spot, first_at, earlier_of, AreApart};
 
-use crate::attempt::{Attempt, Place};
+use crate::attempt::{Arrival, Attempt, Place, Tag};
 use crate::by_id::ById;
 use crate::spot::{Queue, Spot, spot_of};
 use std::alloc::{AllocError, Global};
@@ -144,6 +145,17 @@ impl Table {
         self.by_id.put(attempt);
     }
 
+    /// Gives the one with an id this tag, if there is one and its arrival is known.
+    pub(crate) fn retag(&mut self, id: u64, tag: Tag)
+        ensures { self.new ≡ retagged tag self.old (with_id id self.old) }
+    {
+        let Some(before) = self.by_id.get(id) else {
+            return;
+        };
+        let arrival = tagged(tag, before.arrival);
+        self.by_id.put(Attempt { arrival, ..before });
+    }
+
     /// Takes out the one with an id, if there is one.
     pub(crate) fn remove(&mut self, id: u64)
         ensures { self.new ≡ without id self.old }
@@ -169,6 +181,14 @@ fn earlier_of(one: Option<Attempt>, other: Option<Attempt>) -> Option<Attempt>
     } else {
         one
     }
+}
+
+// An arrival with this tag.
+fn tagged(tag: Tag, arrival: Option<Arrival>) -> Option<Arrival>
+    ensures { result ≡ tagged tag arrival }
+{
+    let Arrival { time, .. } = arrival?;
+    Some(Arrival { time, tag })
 }
 
 // Adds where an attempt is.

@@ -70,20 +70,15 @@ pub fn devices_of(
     names: &[String],
 ) -> Result<(Vec<Device>, Vec<bool>), AllocError> {
     let last = count_of(&options.hosts, names).saturating_sub(1);
+    let usual = capture.usual_taken(alloc, u32::try_from(names.len()).unwrap_or(u32::MAX))?;
     let mut devices = Vec::new(alloc);
     let mut rated = Vec::new(alloc);
-    let mut number = 0u32;
-    for name in names {
+    for (name, usual) in names.iter().zip(&usual) {
         let adapter = value_of(&options.hosts, name).map_or(last, |host| host.adapter);
         let rating = value_of(&options.ratings, name);
         rated.push(rating.is_some())?;
-        let openings = match rating {
-            Some(openings) => openings,
-            None => capture.usual_taken(alloc, number)?,
-        };
-        let device = device_on(&devices, adapter, openings);
+        let device = device_on(&devices, adapter, rating.unwrap_or(*usual));
         devices.push(device)?;
-        number = number.saturating_add(1);
     }
     Ok((devices, rated))
 }

@@ -1,5 +1,6 @@
 pub mod FoundLemmas
 pub mod CountLemmas
+pub mod DeviceLemmas
 pub mod PartLemmas
 pub mod FaultLemmas
 pub mod TallyLemmas

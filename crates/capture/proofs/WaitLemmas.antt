@@ -1,12 +1,12 @@
 -- how many wait at the end of a round
-use Rattle.std.proofs.Common.{◌≡◌, ℕ, ◌+◌, ◌-◌, ◌<◌, ◌≤◌, ◌==◌, Bool, true, false, List, [], ◌∷◌, length, refl, arith, inl, inr, ◌&&◌, nat_lt, nat_le, count_by, All, slice_index, get_or, set, sym, ap, ◌∙◌}
+use Rattle.std.proofs.Common.{◌≡◌, ℕ, ◌+◌, ◌-◌, ◌<◌, ◌≤◌, ◌==◌, Bool, true, false, List, [], ◌∷◌, length, refl, arith, inl, inr, ◌&&◌, nat_lt, nat_le, count_by, All, slice_index, set, sym, ap, ◌∙◌}
 use Rattle.std.proofs.lemmas.Grind.{get_or-set_at}
-use Rattle.std.proofs.lemmas.List.{get_or_default, get_or-set_other}
+use Rattle.std.proofs.lemmas.List.{get_or-set_other}
 use Rattle.std.proofs.lemmas.Bool.{cases_eq, cases_order, cases_lt, lt-ltb, le-ltb, le-leb, lt-leb, eq-eqb, ne_eqb}
 use Rattle.std.proofs.lemmas.List.Sums.{count_by-le-length}
 use Rattle.recording_file.specs.declared.request.Request.{Request}
 use Rattle.capture.specs.Faults.{IsInRounds}
-use Rattle.capture.specs.Loads.{IsRow, arrivals_in, sends_in, waiting}
+use Rattle.capture.specs.Loads.{arrivals_in, sends_in, waiting}
 use Rattle.capture.proofs.CountLemmas.{one, count_by-cons, count_split}
 
 -- how many of a device's requests arrive before a round, and are started before it
@@ -67,12 +67,6 @@ wait_step last qs device r before a s h so_far arrived sent =
     let w = come_waits last qs device r h in
     let most : come qs device (r + 1) ≤ length qs = count_by-le-length (λ (q : Request). (q.device == device) && nat_lt q.arrival (r + 1)) qs in
     record { enough = omega arith; few = omega arith; next = omega arith; is = omega arith }
-
--- the same by what stands in the rows
-pub wait_step_at : (last : ℕ) (qs : List Request) (device r before a s : ℕ) (row sent : List ℕ) → All (IsInRounds last) qs → r < last + 1 → length row ≡ last + 1 → IsRow (sends_in qs device) last sent → before + gone qs device r ≡ come qs device r → ((k : ℕ) → r ≤ k → k ≤ last → slice_index row k ≡ arrivals_in qs device k) → a ≡ get_or row r a → s ≡ get_or sent r s → WaitStep qs device r before a s
-wait_step_at last qs device r before a s row sent h lt size sends so_far ahead read also =
-    let many = sends.size in
-    wait_step last qs device r before a s h so_far (read ∙ get_or_default row r a 0 (omega arith) ∙ ahead r (omega arith) (omega arith)) (also ∙ get_or_default sent r s 0 (omega arith) ∙ sends.each r (omega arith))
 
 -- the rows after a round
 pub behind_more : (row : List ℕ) (r v : ℕ) (number : ℕ → ℕ) → r < length row → v ≡ number r → ((k : ℕ) → k < r → slice_index row k ≡ number k) → (k : ℕ) → k < r + 1 → slice_index (set row r v) k ≡ number k

@@ -1,6 +1,8 @@
 -- what is started and waits in rounds
-use Rattle.std.specs.Prelude.{◌≡◌, ℕ, ◌+◌, ◌≤◌, ◌==◌, Bool, nat_lt, nat_le, ◌&&◌, List, length, count_by, slice_index}
+use Rattle.std.specs.Prelude.{◌≡◌, ℕ, ◌+◌, ◌<◌, ◌≤◌, ◌==◌, Bool, nat_lt, nat_le, ◌&&◌, List, length, count_by, get_or, slice_index, Vec}
+use Rattle.std.specs.Global.{Global}
 use Rattle.recording_file.specs.declared.request.Request.{Request}
+use Rattle.capture.specs.declared.device_rounds.DeviceRows.{DeviceRows}
 
 -- how many of a device's requests arrived in a round, and how many were started in it
 abbrev pub arrivals_in : List Request → ℕ → ℕ → ℕ
@@ -21,3 +23,12 @@ is_pressed qs device round = nat_lt 0 (waiting qs device round)
 pub record IsRow (number : ℕ → ℕ) (rounds : ℕ) (row : List ℕ) : Type 0 where
   pub size : length row ≡ rounds + 1
   pub each : (round : ℕ) → round ≤ rounds → slice_index row round ≡ number round
+
+-- each of so many devices has its row
+pub record AreRows (number : ℕ → ℕ → ℕ) (devices rounds : ℕ) (rows : List (Vec ℕ Global)) : Type 0 where
+  pub all : length rows ≡ devices
+  pub each : (d : ℕ) (x : Vec ℕ Global) → d < devices → IsRow (number d) rounds (get_or rows d x).items
+
+pub record AreDeviceRows (qs : List Request) (devices rounds : ℕ) (rows : DeviceRows) : Type 0 where
+  pub arrivals : AreRows (arrivals_in qs) devices rounds rows.arrivals.items
+  pub sends : AreRows (sends_in qs) devices rounds rows.sends.items

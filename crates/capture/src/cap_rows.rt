@@ -1,21 +1,23 @@
 //! How many requests a part takes in each round.
 
 ghost use Rattle.std.specs.Prelude.{◌≡◌, ◌<◌, ◌≤◌, ◌^◌, ◌+◌, IfOk, All, ℕ, max, min, nat_lt, if◌then◌else◌, length, slice_index};
-ghost use Rattle.recording_file.specs.Caps.{openings};
+ghost use Rattle.recording_file.specs.Caps.{openings, part_count};
+ghost use Rattle.recording_file.specs.Counts.{counts_of};
+ghost use Rattle.recording_file.specs.Recorded.{load};
 ghost use Rattle.capture.specs.Captured.{is_flagged, is_measured, is_open, own_cap, open_cap, cap_of, sum_on, spare_in, room};
 ghost use Rattle.capture.specs.declared.capture_fault.TheConstants.{MAX_IN_ROUND};
 ghost use Rattle.capture.specs.Faults.{IsInRounds};
-ghost use Rattle.capture.specs.Loads.{IsRow};
+ghost use Rattle.capture.specs.Loads.{IsRow, AreDeviceRows};
 
 use crate::capture_fault::MAX_IN_ROUND;
-use crate::device_rounds::waiting_row;
+use crate::device_rounds::{DeviceRows, waiting_row};
 use crate::part_loads::load_row;
 use crate::parts::openings;
 use cam_types::Config;
 use recording_file::{Part, PartKind, Request};
 use std::alloc::{AllocError, Global};
 
-/// The cap of a part in each round. It fails only if there is no memory.
+/// The cap of a part in each round, by the rows of the devices. It fails only if there is no memory.
 pub fn cap_row(
     alloc: Global,
     last: u32,
@@ -24,16 +26,19 @@ pub fn cap_row(
     open: &[bool],
     spare: &[Vec<u32>],
     requests: &[Request],
+    rows: &DeviceRows,
     part: Part,
 ) -> Result<Vec<u32>, AllocError>
     requires within { All (IsInRounds last) requests.now }
     requires few { length requests.now < 2 ^ 32 }
+    requires rows { AreDeviceRows requests.now (length config.now.devices) last rows.now }
+    requires there { part.number < part_count (counts_of config.now) part.kind }
     ensures { IfOk result (λ row. IsRow (cap_of config.now rated.now open.now spare.now requests.now part) last row.items) }
 {
     if is_open(open, part) {
-        open_row(alloc, last, config, rated, spare, requests, part)
+        open_row(alloc, last, config, rated, spare, requests, rows, part)
     } else {
-        own_row(alloc, last, config, rated, spare, requests, part)
+        own_row(alloc, last, config, rated, spare, requests, rows, part)
     }
 }
 
@@ -45,16 +50,21 @@ fn own_row(
     rated: &[bool],
     spare: &[Vec<u32>],
     requests: &[Request],
+    rows: &DeviceRows,
     part: Part,
 ) -> Result<Vec<u32>, AllocError>
     requires within { All (IsInRounds last) requests.now }
     requires few { length requests.now < 2 ^ 32 }
+    requires rows { AreDeviceRows requests.now (length config.now.devices) last rows.now }
+    requires there { part.number < part_count (counts_of config.now) part.kind }
     ensures { IfOk result (λ row. IsRow (own_cap config.now rated.now spare.now requests.now part) last row.items) }
 {
     let usual = openings(config, part);
     if is_measured(rated, part) {
-        let mut row = room_row(alloc, last, config, spare, requests, part)?;
-        let waiting = waiting_row(alloc, last, requests, part.number)?;
+        let arrivals = &rows.arrivals[part.number as usize];
+        let sends = &rows.sends[part.number as usize];
+        let mut row = room_row(alloc, last, config, spare, requests, part, sends)?;
+        let waiting = waiting_row(alloc, last, requests, part.number, arrivals, sends)?;
         raise_idle(&mut row, &waiting, usual);
         Ok(row)
     } else {
@@ -64,7 +74,7 @@ fn own_row(
     }
 }
 
-// What a device started in each round, and what more it had room for.
+// What a device had room for in each round: what it started, which is that row, and what more there was.
 fn room_row(
     alloc: Global,
     last: u32,
@@ -72,12 +82,12 @@ fn room_row(
     spare: &[Vec<u32>],
     requests: &[Request],
     part: Part,
+    sends: &[u32],
 ) -> Result<Vec<u32>, AllocError>
-    requires within { All (IsInRounds last) requests.now }
-    requires few { length requests.now < 2 ^ 32 }
+    requires { IsRow (load config.now requests.now part) last sends.now }
     ensures { IfOk result (λ row. IsRow (room config.now spare.now requests.now part) last row.items) }
 {
-    let mut row = load_row(alloc, last, config, requests, part)?;
+    let mut row = sends.to_vec(alloc)?;
     add_spare(&mut row, spare, part.number);
     Ok(row)
 }
@@ -90,10 +100,12 @@ fn open_row(
     rated: &[bool],
     spare: &[Vec<u32>],
     requests: &[Request],
+    rows: &DeviceRows,
     part: Part,
 ) -> Result<Vec<u32>, AllocError>
     requires within { All (IsInRounds last) requests.now }
     requires few { length requests.now < 2 ^ 32 }
+    requires rows { AreDeviceRows requests.now (length config.now.devices) last rows.now }
     ensures { IfOk result (λ row. IsRow (open_cap config.now rated.now spare.now requests.now part) last row.items) }
 {
     let usual = openings(config, part);
@@ -101,7 +113,16 @@ fn open_row(
         return vec![in alloc; MAX_IN_ROUND; last as usize + 1];
     }
     let mut row = load_row(alloc, last, config, requests, part)?;
-    let devices = devices_row(alloc, last, config, rated, spare, requests, part.number)?;
+    let devices = devices_row(
+        alloc,
+        last,
+        config,
+        rated,
+        spare,
+        requests,
+        rows,
+        part.number,
+    )?;
     raise_to(&mut row, usual, &devices);
     Ok(row)
 }
@@ -131,10 +152,12 @@ fn devices_row(
     rated: &[bool],
     spare: &[Vec<u32>],
     requests: &[Request],
+    rows: &DeviceRows,
     adapter: u32,
 ) -> Result<Vec<u32>, AllocError>
     requires within { All (IsInRounds last) requests.now }
     requires few { length requests.now < 2 ^ 32 }
+    requires rows { AreDeviceRows requests.now (length config.now.devices) last rows.now }
     ensures { IfOk result (λ row. IsRow (λ round. min MAX_IN_ROUND (sum_on config.now adapter (λ d. own_cap config.now rated.now spare.now requests.now d round))) last row.items) }
 {
     let mut sums = vec![in alloc; 0; last as usize + 1]?;
@@ -144,7 +167,7 @@ fn devices_row(
                 kind: PartKind::Device,
                 number,
             };
-            let own = own_row(alloc, last, config, rated, spare, requests, part)?;
+            let own = own_row(alloc, last, config, rated, spare, requests, rows, part)?;
             add_row(&mut sums, &own);
         }
     }

@@ -1,7 +1,7 @@
 //! The requests of a capture in rounds.
 
 use crate::capture_fault::CaptureFault;
-use crate::device_rounds::{sends_row, waiting_row};
+use crate::device_rounds::{DeviceRows, device_rows, waiting_row};
 use crate::median::{middle, numbers_where};
 use crate::recording::recording_with;
 use crate::request_faults::check_requests;
@@ -36,11 +36,13 @@ impl Model for Capture {
 }
 
 impl Capture {
-    ghost use Rattle.std.specs.Prelude.{◌≡◌, ◌≢◌, ◌≤◌, List, [], length, count_by, None, Some, IfOk, IfErr, OnOk};
+    ghost use Rattle.std.specs.Prelude.{◌≡◌, ◌≢◌, ◌<◌, ◌≤◌, ℕ, All, List, [], length, map, count_by, None, Some, IfOk, IfErr, OnOk};
+    ghost use Rattle.std.specs.List.{range_with_len};
     ghost use Rattle.cam_types.specs.declared.limits.TheConstants.{MAX_OPENINGS};
     ghost use Rattle.capture.specs.Captured.{recorded_of, captured, NeverLimits};
     ghost use Rattle.capture.specs.Timed.{TimedRequest, is_started};
     ghost use Rattle.capture.specs.Faults.{IsCapture, capture_fault, rounds_fault, recording_fault, OutOfMemory};
+    ghost use Rattle.capture.specs.Loads.{AreDeviceRows};
     ghost use Rattle.capture.specs.Rounds.{in_rounds, rounds_from};
     ghost use Rattle.recording_file.specs.declared.limits.TheConstants.{MAX_RECORDED_ROUNDS};
     ghost use Rattle.capture.specs.Usual.{usual_taken};
@@ -135,16 +137,31 @@ impl Capture {
         &self.requests
     }
 
-    /// What a device usually starts in a round at whose end one of its requests waits: the lower median, from 1 to 255. It fails
-    /// only if there is no memory.
-    pub fn usual_taken(&self, alloc: Global, device: u32) -> Result<u32, AllocError>
+    /// What each of so many devices usually starts in a round at whose end one of its requests waits: the lower median, from 1 to 255.
+    /// It fails only if there is no memory.
+    pub fn usual_taken(&self, alloc: Global, devices: u32) -> Result<Vec<u32>, AllocError>
+        ensures same { IfOk result (λ numbers. numbers.items ≡ map (usual_taken self.now) (range_with_len 0 devices)) }
+        ensures within { IfOk result (λ numbers. All (λ n. (1 ≤ n) × (n ≤ MAX_OPENINGS)) numbers.items) }
+    {
+        let rows = device_rows(alloc, self.rounds, devices, &self.requests)?;
+        let mut numbers = Vec::with_capacity(alloc, devices as usize)?;
+        for device in 0..devices {
+            numbers.push(self.usual_in(alloc, device, &rows)?)?;
+        }
+        Ok(numbers)
+    }
+
+    // What a device usually starts, by the rows of all.
+    fn usual_in(&self, alloc: Global, device: u32, rows: &DeviceRows) -> Result<u32, AllocError>
+        requires { (n : ℕ) × (device < n) × AreDeviceRows self.now.requests n self.now.rounds rows.now }
         ensures same { IfOk result (λ n. n ≡ usual_taken self.now device) }
         ensures some { IfOk result (λ n. 1 ≤ n) }
         ensures most { IfOk result (λ n. n ≤ MAX_OPENINGS) }
     {
-        let sends = sends_row(alloc, self.rounds, &self.requests, device)?;
-        let waiting = waiting_row(alloc, self.rounds, &self.requests, device)?;
-        let numbers = numbers_where(alloc, &sends, &waiting)?;
+        let arrivals = &rows.arrivals[device as usize];
+        let sends = &rows.sends[device as usize];
+        let waiting = waiting_row(alloc, self.rounds, &self.requests, device, arrivals, sends)?;
+        let numbers = numbers_where(alloc, sends, &waiting)?;
         Ok(middle(&numbers))
     }
 

@@ -8,11 +8,13 @@ ghost use Rattle.recording_file.specs.Recorded.{is_done_right, request_cause};
 ghost use Rattle.recording_file.specs.declared.limits.TheConstants.{MAX_REQUESTS};
 ghost use Rattle.capture.specs.Captured.{has_completions, recorded_of, part_caps};
 ghost use Rattle.capture.specs.Faults.{IsCapture, IsInRounds, starts_in, device_fault, name_fault, recording_fault, OutOfMemory};
+ghost use Rattle.capture.specs.Loads.{AreDeviceRows};
 ghost use Rattle.capture.specs.Parts.{all_parts};
 ghost use Rattle.capture.specs.declared.capture_fault.TheConstants.{MAX_IN_ROUND};
 
 use crate::cap_rows::cap_row;
 use crate::capture_fault::CaptureFault;
+use crate::device_rounds::{DeviceRows, device_rows};
 use crate::parts::{all_parts, openings};
 use crate::runs::add_runs;
 use cam_types::Config;
@@ -39,6 +41,7 @@ pub fn recording_with(
 {
     check_devices(config, requests)?;
     let parts = all_parts(alloc, config)?;
+    let rows = device_rows(alloc, rounds, config.devices().len() as u32, requests)?;
     let mut recorder = Recorder::new(
         alloc,
         Some(round),
@@ -55,6 +58,7 @@ pub fn recording_with(
         open,
         spare,
         requests,
+        &rows,
         &parts,
     )?;
     add_requests(alloc, &mut recorder, config, rated, open, spare, requests)?;
@@ -102,11 +106,13 @@ fn add_caps(
     open: &[bool],
     spare: &[Vec<u32>],
     requests: &[Request],
+    rows: &DeviceRows,
     parts: &[Part],
 ) -> Result<(), AllocError>
     requires within { All (IsInRounds recorder.old.rounds) requests.now }
     requires few { length requests.now < 2 ^ 32 }
     requires kept { IsConfig config.now }
+    requires rows { AreDeviceRows requests.now (length config.now.devices) recorder.old.rounds rows.now }
     requires parts { parts.now ≡ all_parts config.now }
     requires crowds { (round : ℕ) → 1 ≤ round → round ≤ recorder.old.rounds → starts_in requests.now round ≤ MAX_IN_ROUND }
     requires config { recorder.old.config ≡ config.now }
@@ -123,6 +129,7 @@ fn add_caps(
             open,
             spare,
             requests,
+            rows,
             *part,
         )?;
         add_runs(recorder, *part, &row, openings(config, *part))?;

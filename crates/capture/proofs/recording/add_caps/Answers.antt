@@ -12,6 +12,10 @@ use Rattle.capture.proofs.recording.add_caps.Goals as goal
 pub loop-part-init : goal.loop-part-init
 loop-part-init c = caps_none c.args.recorder.now c.requires.empty
 
+pub cap_row-requires-clause-there : goal.cap_row-requires-clause-there
+cap_row-requires-clause-there c =
+    rw c.requires.parts (parts_there c.args.config.now c.loop-part.part-index _ (rw c.requires.parts at c.loop-part-test.true))
+
 pub add_runs-requires-clause-there : goal.add_runs-requires-clause-there
 add_runs-requires-clause-there c =
     rw (c.loop-part.invariant, c.requires.config, c.requires.parts) (parts_there c.args.config.now c.loop-part.part-index _ (rw c.requires.parts at c.loop-part-test.true))

@@ -1,4 +1,4 @@
-use Rattle.std.proofs.Common.{◌≡◌, ◌≤◌, length, ap, arith}
+use Rattle.std.proofs.Common.{length, ap, arith}
 use Rattle.std.proofs.lemmas.List.{length-map}
 use Rattle.capture.specs.Rounds.{request_in}
 use Rattle.capture.proofs.RoundLemmas.{started_fit, starts_before, arrivals_before, all_from, starts_in_time}

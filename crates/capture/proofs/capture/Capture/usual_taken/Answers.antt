@@ -1,17 +1,19 @@
-use Rattle.std.proofs.Common.{◌-◌, ◌∙◌, length, ap, arith, nat_lt, slice_index}
-use Rattle.capture.specs.Rounds.{Rounded}
-use Rattle.capture.specs.Usual.{middle, usual_taken}
-use Rattle.capture.proofs.UsualLemmas.{pressed_numbers, few_numbers}
+use Rattle.std.proofs.Common.{ℕ, ◌≤◌, ◌∙◌, ◌∷◌, ◌++◌, [], map, sym, ap, arith, zero-add}
+use Rattle.std.specs.List.{range_with_len}
+use Rattle.std.proofs.lemmas.List.Elements.{All-append, All-cons}
+use Rattle.std.proofs.lemmas.List.FromFn.{map-range_with_len_more}
+use Rattle.cam_types.specs.declared.limits.TheConstants.{MAX_OPENINGS}
+use Rattle.capture.specs.Usual.{usual_taken}
 use Rattle.capture.proofs.capture.Capture.usual_taken.Goals as goal
 
-pub middle-requires : goal.middle-requires
-middle-requires c =
-    let sends = c.in_ok-sends.ensures in
-    let size = sends.size in
-    let few = c.self.invariant.rounds in
-    rw (c.deref-5.ensures.value, c.in_ok-numbers.ensures) (omega (arith, few_numbers (slice_index c.deref-3.result.now) (λ round. nat_lt 0 (slice_index c.deref-4.result.now round)) 1 (length c.deref-3.result.now - 1), ap length c.deref-3.ensures.value))
-
-pub returns-clause-same : goal.returns-clause-same
-returns-clause-same c =
-    let r : Rounded = record { unit = c.self.inside.round; rounds = c.self.inside.rounds; requests = c.self.inside.requests.items } in
-    c.middle.ensures.same ∙ ap middle (c.deref-5.ensures.value ∙ pressed_numbers r c.args.device c.in_ok-sends.sends.items c.in_ok-waiting.waiting.items c.in_ok-numbers.numbers.items c.deref-3.result.now c.deref-4.result.now (rw c.deref.ensures.value at c.in_ok-sends.ensures) (rw c.deref-2.ensures.value at c.in_ok-waiting.ensures) c.deref-3.ensures.value c.deref-4.ensures.value c.in_ok-numbers.ensures) ∙ ap (λ (r : Rounded). usual_taken r c.args.device) c.self.view_is
+pub loop-device-preserved : goal.loop-device-preserved
+loop-device-preserved c =
+    let h = c.loop-device.invariant in
+    let d = c.loop-device.device in
+    let n = c.in_ok-usual_in.field-0 in
+    let new = c.in_ok-push.ensures.items in
+    let P : ℕ → Type 0 = λ n. (1 ≤ n) × (n ≤ MAX_OPENINGS) in
+    record {
+      same = new ∙ ap (λ ns. ns ++ n ∷ []) h.same ∙ ap (λ m. map (usual_taken c.args.self.now) (range_with_len 0 d) ++ m ∷ []) c.in_ok-usual_in.ensures.same ∙ sym (map-range_with_len_more (usual_taken c.args.self.now) 0 d d (zero-add d));
+      within = rw new (All-append P c.loop-device.numbers.items (n ∷ []) h.within (All-cons P n [] (c.in_ok-usual_in.ensures.some, c.in_ok-usual_in.ensures.most) (λ k e lt. absurd (omega arith))));
+    }

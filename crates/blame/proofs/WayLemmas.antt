@@ -12,8 +12,10 @@ use Rattle.round_net.specs.declared.cause.WaitCause.{WaitCause}
 use Rattle.round_net.specs.declared.cause.WaitCause.TheVariants.{Error, Caller, AdapterFrozen, DeviceStopped, AdapterStopped, LinkStopped, DeviceFull, AdapterFull, LinkFull, NotAsked}
 use Rattle.wait_causes.specs.Origins.{cause_of, config_in, instance_in, known_of}
 use Rattle.wait_causes.specs.declared.origin.Origin.{Origin}
+use Rattle.wait_causes.specs.Tables.{stays_of}
 use Rattle.wait_causes.specs.declared.explained_stay.ExplainedStay.{ExplainedStay}
-use Rattle.blame.specs.InTheWay.{shares_link, is_there, served_to, is_served, is_then, is_candidate, rather, first_of, in_way, last_for, with_candidate, is_above, NeverAbove, ArePut}
+use Rattle.wait_causes.specs.declared.table.Grouping.TheVariants.{Device}
+use Rattle.blame.specs.InTheWay.{shares_link, is_there, served_to, is_served, is_then, is_candidate, rather, first_of, in_way, last_for, with_candidate, is_above, NeverAbove, HasCandidates, ArePut}
 
 first-append : (xs : List ExplainedStay) (s : ExplainedStay) → first_of (xs ++ s ∷ []) ≡ Some (rather (first_of xs) s)
 first-append xs s = fold-append (λ t s. Some (rather t s)) None xs (s ∷ [])
@@ -113,11 +115,21 @@ local_there c d AdapterFull s e f = absurd (cc)
 local_there c d LinkFull s e f = absurd (cc)
 local_there c d NotAsked s e f = refl
 
-pub unput_local : (o : Origin) (d : ℕ) (s : ExplainedStay) (ws : List (Option ExplainedStay)) → (s.device == d) ≡ false → NeverAbove o d (instance_in o).rounds → length ws ≡ (instance_in o).rounds → ArePut o d s ws ws
-unput_local o d s ws apart never size = record {
-  all = refl;
-  each = λ k x lt. sym (unput o d (k + 1) s (get_or ws k x) (and_first _ _ (local_there (config_in o) d (cause_of o d (k + 1)) s apart (never (k + 1) (omega arith) (omega (arith, lt, size))))));
-}
+not_local : (o : Origin) (d r : ℕ) (s : ExplainedStay) → NeverAbove o d (instance_in o).rounds → 1 ≤ r → r ≤ (instance_in o).rounds → (s.device == d) ≡ false → is_candidate o d r s ≡ false
+not_local o d r s never first last apart = and_first _ _ (local_there (config_in o) d (cause_of o d r) s apart (never r first last))
+
+kept_among : {X : Type 0} (p q : X → Bool) (xs : List X) → ((x : X) → q x ≡ false → p x ≡ false) → filter p (filter q xs) ≡ filter p xs
+kept_among p q [] h = refl
+kept_among {X} p q (x ∷ xs) h = elim (q x) as (λ b. q x ≡ b → filter p (cond b (x ∷ filter q xs) (filter q xs)) ≡ cond (p x) (x ∷ filter p xs) (filter p xs)) [
+  | true ↦ λ e. ap (λ (ys : List X). cond (p x) (x ∷ ys) ys) (kept_among p q xs h)
+  | false ↦ λ e. kept_among p q xs h ∙ sym (rw (h x e) refl)
+] refl
+
+pub all_are_near : (o : Origin) (d : ℕ) (stays list : List ExplainedStay) → list ≡ stays → HasCandidates o d stays list
+all_are_near o d stays list is r first last = ap (filter (is_candidate o d r)) is
+
+pub own_are_near : (o : Origin) (d : ℕ) (stays list : List ExplainedStay) → NeverAbove o d (instance_in o).rounds → list ≡ stays_of Device stays d → HasCandidates o d stays list
+own_are_near o d stays list never is r first last = ap (filter (is_candidate o d r)) is ∙ kept_among (is_candidate o d r) (λ (s : ExplainedStay). s.device == d) stays (λ s apart. not_local o d r s never first last apart)
 
 -- one round more in which a device's stays don't wait for what is above it
 pub never_more : (o : Origin) (d n : ℕ) → NeverAbove o d n → is_above (cause_of o d (n + 1)) ≡ false → NeverAbove o d (n + 1)
@@ -229,14 +241,14 @@ ways_more o d xs s old new are put = record {
   each = λ k x lt. put.each k x (omega (arith, lt, are.all)) ∙ ap (with_candidate o d (k + 1) s) (are.each k x lt) ∙ put_more o d (k + 1) xs s;
 }
 
-pub ways_all : (o : Origin) (d : ℕ) (xs : List ExplainedStay) (ways : List (Option ExplainedStay)) → AreWays o d xs ways → ways ≡ map (in_way o xs d) (range_with_len 1 (instance_in o).rounds)
+pub ways_all : (o : Origin) (d : ℕ) (xs list : List ExplainedStay) (ways : List (Option ExplainedStay)) → HasCandidates o d xs list → AreWays o d list ways → ways ≡ map (in_way o xs d) (range_with_len 1 (instance_in o).rounds)
 unfolding in_way
-ways_all o d xs ways are =
+ways_all o d xs list ways has are =
     ext_get_or None ways (map (λ r. first_of (filter (is_candidate o d r) xs)) (range_with_len 1 (instance_in o).rounds))
     (are.all ∙ sym (length-map-range_with_len (λ r. first_of (filter (is_candidate o d r) xs)) 1 (instance_in o).rounds))
     (λ k lt.
     let inside : k < (instance_in o).rounds = omega (arith, lt, are.all) in
-    are.each k None inside ∙ sym (get_or-map-range_with_len (λ r. first_of (filter (is_candidate o d r) xs)) 1 (instance_in o).rounds k (k + 1) None inside (omega arith)))
+    are.each k None inside ∙ ap first_of (has (k + 1) (omega arith) (omega (arith, inside))) ∙ sym (get_or-map-range_with_len (λ r. first_of (filter (is_candidate o d r) xs)) 1 (instance_in o).rounds k (k + 1) None inside (omega arith)))
 
 -- a slice of a vector's length is written back whole
 pub written_back : {X : Type 0} (new items : List X) (len : ℕ) → length new ≡ len → length items ≡ len → take len (new ++ drop (length new) items) ≡ new

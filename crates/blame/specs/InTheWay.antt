@@ -78,6 +78,10 @@ first_of stays = fold (λ t s. Some (rather t s)) None stays
 unfoldable pub in_way : Origin → List ExplainedStay → ℕ → ℕ → Option ExplainedStay
 in_way o stays d r = first_of (filter (is_candidate o d r) stays)
 
+-- a list has all of those that may have been in the way of a device's stays, in their order
+abbrev pub HasCandidates : Origin → ℕ → List ExplainedStay → List ExplainedStay → Type 0
+HasCandidates o d stays list = (r : ℕ) → 1 ≤ r → r ≤ (instance_in o).rounds → filter (is_candidate o d r) list ≡ filter (is_candidate o d r) stays
+
 -- the last round in which it may be in the way
 abbrev pub last_for : Bool → ℕ → ExplainedStay → ℕ
 last_for known rounds s = min (if known then max (served_to rounds s) s.live else s.live) rounds

@@ -4,31 +4,51 @@ ghost use Rattle.std.specs.Prelude.{◌≡◌, ◌<◌, ◌≤◌, ◌||◌, ◌
 ghost use Rattle.std.specs.List.{range_with_len};
 ghost use Rattle.cam_types.specs.Questions.{is_on};
 ghost use Rattle.wait_causes.specs.Origins.{instance_in, known_of};
-ghost use Rattle.blame.specs.InTheWay.{device_link, is_same_link, shares_link, is_there, is_served, is_then, is_candidate, served_to, rather, last_for, in_way, is_above, NeverAbove, ArePut};
+ghost use Rattle.wait_causes.specs.Tables.{stays_of};
+ghost use Rattle.wait_causes.specs.declared.table.Grouping.TheVariants.{Device};
+ghost use Rattle.blame.specs.InTheWay.{device_link, is_same_link, shares_link, is_there, is_served, is_then, is_candidate, served_to, rather, last_for, in_way, is_above, NeverAbove, HasCandidates, ArePut};
 ghost use Rattle.blame.specs.Lists.{stays_in};
 
 use cam_types::Config;
 use std::alloc::{AllocError, Global};
 use wait_causes::{ExplainedStay, Explanation, WaitCause};
 
-/// For each round of the device, from round 1 on, who was in the way there.
+/// For each round of the device, from round 1 on, who was in the way there. `own` are its own stays.
 pub(crate) fn in_way_of(
     alloc: Global,
     explanation: &Explanation,
     device: u32,
+    own: &[ExplainedStay],
 ) -> Result<Vec<Option<ExplainedStay>>, AllocError>
-    requires { device < (instance_in explanation.now.origin).devices }
+    requires device { device < (instance_in explanation.now.origin).devices }
+    requires own { own.now ≡ stays_of Device (stays_in explanation.now) device }
     ensures { let e = explanation.now in IfOk result (λ ways. ways.items ≡ map (in_way e.origin (stays_in e) device) (range_with_len 1 (instance_in e.origin).rounds)) }
 {
     let mut ways = nobody(alloc, explanation.rounds())?;
-    let waits_above = waits_above(explanation, device);
-    for stay in explanation.stays() {
-        note(explanation, device, waits_above, stay, &mut ways);
+    for stay in near(explanation, device, own) {
+        note(explanation, device, stay, &mut ways);
     }
     Ok(ways)
 }
 
-// Whether stays of the device waited for its adapter or link in some round. If not, only its own stays can be in the way.
+// Stays among which all are that were in the way of the device's: its own are enough if none of them waited for its adapter or link.
+fn near<'a>(
+    explanation: &'a Explanation,
+    device: u32,
+    own: &'a [ExplainedStay],
+) -> &'a [ExplainedStay]
+    requires device { device < (instance_in explanation.now.origin).devices }
+    requires own { own.now ≡ stays_of Device (stays_in explanation.now) device }
+    ensures { HasCandidates explanation.now.origin device (stays_in explanation.now) result.now }
+{
+    if waits_above(explanation, device) {
+        explanation.stays()
+    } else {
+        own
+    }
+}
+
+// Whether stays of the device waited for its adapter or link in some round.
 fn waits_above(explanation: &Explanation, device: u32) -> bool
     requires device { device < (instance_in explanation.now.origin).devices }
     ensures { result ≡ false → NeverAbove explanation.now.origin device (instance_in explanation.now.origin).rounds }
@@ -69,18 +89,13 @@ fn nobody(alloc: Global, rounds: u32) -> Result<Vec<Option<ExplainedStay>>, Allo
 fn note(
     explanation: &Explanation,
     device: u32,
-    waits_above: bool,
     stay: &ExplainedStay,
     ways: &mut [Option<ExplainedStay>],
 )
     requires device { device < (instance_in explanation.now.origin).devices }
-    requires above { waits_above ≡ false → NeverAbove explanation.now.origin device (instance_in explanation.now.origin).rounds }
     requires all { length ways.old ≡ (instance_in explanation.now.origin).rounds }
     ensures { ArePut explanation.now.origin device stay.now ways.old ways.new }
 {
-    if !waits_above && stay.device != device {
-        return;
-    }
     if !is_near(explanation.config(), device, stay) {
         return;
     }

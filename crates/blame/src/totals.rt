@@ -12,7 +12,7 @@ ghost use Rattle.blame.specs.Lists.{AreWho, AreTotals};
 
 use crate::in_way::in_way_of;
 use std::alloc::{AllocError, Global};
-use wait_causes::{ExplainedStay, Explanation, Grouping};
+use wait_causes::{ExplainedStay, Explanation, Grouping, groups_of};
 
 /// The number of who was in the way, for each device and each of its rounds.
 pub(crate) fn who_of(
@@ -22,9 +22,11 @@ pub(crate) fn who_of(
 ) -> Result<Vec<Vec<Option<u32>>>, AllocError>
     ensures { IfOk result (λ lists. AreWho explanation.now by lists.items) }
 {
-    let mut lists = Vec::with_capacity(alloc, explanation.devices() as usize)?;
-    for device in 0..explanation.devices() {
-        let ways = in_way_of(alloc, explanation, device)?;
+    let devices = explanation.devices();
+    let own = groups_of(alloc, explanation.stays(), Grouping::Device, devices as usize)?;
+    let mut lists = Vec::with_capacity(alloc, devices as usize)?;
+    for device in 0..devices {
+        let ways = in_way_of(alloc, explanation, device, &own[device as usize])?;
         lists.push(numbers_of(alloc, &ways, by)?)?;
     }
     Ok(lists)

@@ -19,7 +19,7 @@ pub use limit::{LatencyLimit, LimitCounts, StayChoice};
 pub use pairs::{PairedRow, most_changed, paired};
 pub use part::{BehindCosts, CauseCosts, Part};
 pub use round_net::{FreezeKind, WaitCause};
-pub use table::{Grouping, Row, greatest};
+pub use table::{Grouping, Row, greatest, groups_of};
 pub use wait::Wait;
 
 mod behind;

@@ -1,6 +1,6 @@
 //! Stays by adapter, device, driver or run level.
 
-ghost use Rattle.std.specs.Prelude.{◌≡◌, ◌+◌, ◌^◌, ◌≤◌, ◌++◌, [], length, IfOk};
+ghost use Rattle.std.specs.Prelude.{◌≡◌, ◌<◌, ◌≤◌, ◌++◌, [], All, length, IfOk};
 ghost use Rattle.wait_causes.specs.Words.{MAX_NET_STAYS};
 ghost use Rattle.wait_causes.specs.Parts.{AreLight};
 ghost use Rattle.wait_causes.specs.Tables.{number, stays_of, row_for, greatest, table_of, AreGroups};
@@ -58,7 +58,7 @@ pub(crate) fn table_of(
     requires light { AreLight stays.now }
     ensures { IfOk result (λ rows. rows.items ≡ table_of known by stays.now) }
 {
-    let groups = groups_of(alloc, stays, by)?;
+    let groups = groups_of(alloc, stays, by, greatest(stays, by) as usize + 1)?;
     let mut rows = Vec::new(alloc);
     for number in 0..groups.len() {
         push_part(alloc, known, &mut rows, number as u32, &groups[number])?;
@@ -66,16 +66,17 @@ pub(crate) fn table_of(
     Ok(rows)
 }
 
-// The stays of each number up to the greatest.
-fn groups_of(
+/// The stays of each of so many numbers, in the order given. It fails only if there is no memory.
+pub fn groups_of(
     alloc: Global,
     stays: &[ExplainedStay],
     by: Grouping,
+    count: usize,
 ) -> Result<Vec<Vec<ExplainedStay>>, AllocError>
-    ensures groups { IfOk result (λ groups. AreGroups by (greatest by stays.now + 1) stays.now groups.items) }
-    ensures few { IfOk result (λ groups. length groups.items ≤ 2 ^ 32) }
+    requires { All (λ s. number by s < count) stays.now }
+    ensures { IfOk result (λ groups. AreGroups by count stays.now groups.items) }
 {
-    let mut groups = no_groups(alloc, greatest(stays, by) as usize + 1)?;
+    let mut groups = no_groups(alloc, count)?;
     for stay in stays {
         groups[by.number(stay) as usize].push(*stay)?;
     }

@@ -16,17 +16,17 @@ note-requires-clause-all c = ap (λ (ws : List (Option ExplainedStay)). length w
 pub loop-stay-preserved : goal.loop-stay-preserved
 loop-stay-preserved c =
     let o = c.args.explanation.now.origin in
-    let stays : c.stays-stay-items.result.now ≡ stays_in c.args.explanation.now = c.stays-stay-items.ensures.stays in
-    let s : ExplainedStay = get_or c.stays-stay-items.result.now c.loop-stay.stay-index blank in
-    let whole : take (c.loop-stay.stay-index + 1) (stays_in c.args.explanation.now) ≡ take c.loop-stay.stay-index (stays_in c.args.explanation.now) ++ s ∷ [] =
-    ap (λ (xs : List ExplainedStay). take (c.loop-stay.stay-index + 1) xs) (sym stays) ∙ take_more c.stays-stay-items.result.now c.loop-stay.stay-index blank c.loop-stay-test.true ∙ ap (λ (xs : List ExplainedStay). take c.loop-stay.stay-index xs ++ s ∷ []) stays in
+    let list = c.near-stay-items.result.now in
+    let s : ExplainedStay = get_or list c.loop-stay.stay-index blank in
+    let more : take (c.loop-stay.stay-index + 1) list ≡ take c.loop-stay.stay-index list ++ s ∷ [] = take_more list c.loop-stay.stay-index blank c.loop-stay-test.true in
     let put : ArePut o c.args.device s c.loop-stay.ways.items c.note.new.ways = rw (sym c.deref_mut.ensures.value) c.note.ensures in
     let long : length c.loop-stay.ways.items ≡ c.loop-stay.ways.len = ap (λ (ws : List (Option ExplainedStay)). length ws) (sym c.deref_mut.ensures.value) ∙ c.deref_mut.ensures.len in
     let back = written_back c.note.new.ways c.loop-stay.ways.items c.loop-stay.ways.len (put.all ∙ long) long in
-    rw (whole, back) (ways_more o c.args.device (take c.loop-stay.stay-index (stays_in c.args.explanation.now)) s c.loop-stay.ways.items c.note.new.ways c.loop-stay.invariant put)
+    rw (more, back) (ways_more o c.args.device (take c.loop-stay.stay-index list) s c.loop-stay.ways.items c.note.new.ways c.loop-stay.invariant put)
 
 pub returns : goal.returns
 returns c =
     let e = c.args.explanation.now in
-    let all : take c.loop-stay.stay-index (stays_in e) ≡ stays_in e = take_all c.loop-stay.stay-index (stays_in e) (omega (arith, ap (λ (xs : List ExplainedStay). length xs) c.stays-stay-items.ensures.stays, c.loop-stay-test.false)) in
-    ways_all e.origin c.args.device (stays_in e) c.loop-stay.ways.items (subst (λ (xs : List ExplainedStay). AreWays e.origin c.args.device xs c.loop-stay.ways.items) all c.loop-stay.invariant)
+    let list = c.near-stay-items.result.now in
+    let all : take c.loop-stay.stay-index list ≡ list = take_all c.loop-stay.stay-index list (omega (arith, c.loop-stay-test.false)) in
+    ways_all e.origin c.args.device (stays_in e) list c.loop-stay.ways.items c.near-stay-items.ensures (subst (λ (xs : List ExplainedStay). AreWays e.origin c.args.device xs c.loop-stay.ways.items) all c.loop-stay.invariant)

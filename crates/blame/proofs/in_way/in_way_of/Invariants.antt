@@ -1,7 +1,6 @@
 use Rattle.std.proofs.Common.{take}
-use Rattle.blame.specs.Lists.{stays_in}
 use Rattle.blame.proofs.WayLemmas.{AreWays}
 use Rattle.blame.proofs.in_way.in_way_of.Given as goal
 
 abbrev pub invariant-loop-stay : goal.invariant-loop-stay
-invariant-loop-stay l = AreWays l.explanation.origin l.device (take l.stay-index (stays_in l.explanation)) l.ways.items
+invariant-loop-stay l = AreWays l.explanation.origin l.device (take l.stay-index l.stay-items) l.ways.items

@@ -1,8 +1,7 @@
-use Rattle.std.proofs.Common.{◌+◌, arith, take, get_or}
-use Rattle.wait_causes.specs.Tables.{stays_of, greatest}
+use Rattle.std.proofs.Common.{arith, take, get_or}
 use Rattle.std.proofs.lemmas.List.{take_more}
+use Rattle.wait_causes.specs.Tables.{stays_of}
 use Rattle.wait_causes.proofs.CountingLemmas.{blank, lists_length}
-use Rattle.wait_causes.proofs.RowLemmas.{all_reached}
 use Rattle.wait_causes.proofs.TableLemmas.{group_more}
 use Rattle.wait_causes.proofs.table.groups_of.Goals as goal
 
@@ -11,16 +10,12 @@ index_mut-requires c =
     omega (
       arith,
       c.number.ensures,
-      all_reached c.args.by c.args.stays.now c.loop-stay.stay-index blank c.loop-stay-test.true,
-      lists_length (stays_of c.args.by (take c.loop-stay.stay-index c.args.stays.now)) (greatest c.args.by c.args.stays.now + 1) c.loop-stay.groups.items c.loop-stay.invariant,
+      c.requires c.loop-stay.stay-index blank c.loop-stay-test.true,
+      lists_length (stays_of c.args.by (take c.loop-stay.stay-index c.args.stays.now)) c.args.count c.loop-stay.groups.items c.loop-stay.invariant,
     )
 
 pub loop-stay-preserved : goal.loop-stay-preserved
 loop-stay-preserved c =
     rw (take_more c.args.stays.now c.loop-stay.stay-index blank c.loop-stay-test.true)
-    (group_more c.args.by (greatest c.args.by c.args.stays.now + 1) (take c.loop-stay.stay-index c.args.stays.now) (get_or c.args.stays.now c.loop-stay.stay-index blank) c.loop-stay.groups.items c.push.new.self c.index_mut.result.now c.number.result c.loop-stay.invariant c.number.ensures
-    (omega (arith, c.number.ensures, all_reached c.args.by c.args.stays.now c.loop-stay.stay-index blank c.loop-stay-test.true)) c.index_mut.ensures.value c.in_ok-push.ensures.items)
-
-pub returns-clause-few : goal.returns-clause-few
-returns-clause-few c =
-    omega (arith, c.greatest.ensures, lists_length (stays_of c.args.by (take c.loop-stay.stay-index c.args.stays.now)) (greatest c.args.by c.args.stays.now + 1) c.loop-stay.groups.items c.loop-stay.invariant)
+    (group_more c.args.by c.args.count (take c.loop-stay.stay-index c.args.stays.now) (get_or c.args.stays.now c.loop-stay.stay-index blank) c.loop-stay.groups.items c.push.new.self c.index_mut.result.now c.number.result c.loop-stay.invariant c.number.ensures
+    (omega (arith, c.number.ensures, c.requires c.loop-stay.stay-index blank c.loop-stay-test.true)) c.index_mut.ensures.value c.in_ok-push.ensures.items)

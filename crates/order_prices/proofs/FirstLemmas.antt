@@ -1,12 +1,12 @@
--- Who waits first at a device after each round, of the first stays in an order.
+-- Who waits first at a device after each round, of its first stays in the order by weight.
 use Rattle.std.proofs.Common.{◌≡◌, ◌≢◌, ℕ, ◌+◌, ◌<◌, ◌≤◌, ◌⊎◌, true, List, length, get_or, slice_index, replicate, Option, Some, None, refl, sym, ap, ◌∙◌, subst, inl, inr, arith}
 use Rattle.std.proofs.lemmas.Bool.{cases_eq, cases_lt}
 use Rattle.round_net.specs.Instance.{Instance}
 use Rattle.orders.specs.declared.order.Order.TheVariants.{ByWeight}
 use Rattle.orders.specs.Orders.{goes_before}
-use Rattle.orders.specs.Keys.{AreInOrder}
 use Rattle.order_prices.specs.ClosedPrices.{WaitsAfter}
 use Rattle.order_prices.specs.FirstWaiting.{IsFirstOrNobody, AreFirsts, Skips, Takes}
+use Rattle.order_prices.specs.OwnOrders.{IsOwnOrder}
 
 -- of the stays before a place of the order one goes before all others that wait there after the round
 pub record IsFirstSoFar (net : Instance) (f : ℕ → ℕ) (d r : ℕ) (order : List ℕ) (place h : ℕ) : Type 0 where
@@ -56,7 +56,7 @@ IsFound-fresh net f d r order place waits found = record {
 }
 
 -- one that waits where somebody did comes after that one
-IsFound-kept : (net : Instance) (f : ℕ → ℕ) (d r : ℕ) (order : List ℕ) (place h : ℕ) → AreInOrder ByWeight net order → place < net.stays → IsFirstSoFar net f d r order place h → IsFirstSoFar net f d r order (place + 1) h
+IsFound-kept : (net : Instance) (f : ℕ → ℕ) (d r : ℕ) (order : List ℕ) (place h : ℕ) → IsOwnOrder net d order → place < length order → IsFirstSoFar net f d r order place h → IsFirstSoFar net f d r order (place + 1) h
 IsFound-kept net f d r order place h in_order within found = record {
   at = found.at;
   before = omega (arith, found.before);
@@ -82,17 +82,9 @@ AreFound-none net f d order firsts next made long none all each = record {
   each = λ r low high. subst (IsFound net f d r order 0) (sym (none r)) (λ i less. absurd (omega arith));
 }
 
--- the next stay, of another device
-pub AreFound-other : (net : Instance) (f : ℕ → ℕ) (d : ℕ) (order : List ℕ) (place : ℕ) (firsts : List (Option ℕ)) (next : List ℕ) → net.device (slice_index order place) ≢ d → AreFound net f d order place firsts next → AreFound net f d order (place + 1) firsts next
-AreFound-other net f d order place firsts next other found = record {
-  long = found.long;
-  skips = found.skips;
-  each = λ r low high. IsFound-past net f d r order place (get_or firsts r None) (λ waits. other waits.here) (found.each r low high);
-}
-
--- the next stay, of the device
-pub AreFound-own : (net : Instance) (f : ℕ → ℕ) (d : ℕ) (order : List ℕ) (place : ℕ) (firsts new : List (Option ℕ)) (next after : List ℕ) (from to stay : ℕ) → AreInOrder ByWeight net order → place < net.stays → stay ≡ slice_index order place → net.device stay ≡ d → from ≡ net.arrival stay → to ≡ f stay → AreFound net f d order place firsts next → Skips new after → Takes firsts new from to stay → AreFound net f d order (place + 1) new after
-AreFound-own net f d order place firsts new next after from to stay in_order within is own from_is to_is found skips takes = record {
+-- the next stay
+pub AreFound-own : (net : Instance) (f : ℕ → ℕ) (d : ℕ) (order : List ℕ) (place : ℕ) (firsts new : List (Option ℕ)) (next after : List ℕ) (from to stay : ℕ) → IsOwnOrder net d order → place < length order → stay ≡ slice_index order place → from ≡ net.arrival stay → to ≡ f stay → AreFound net f d order place firsts next → Skips new after → Takes firsts new from to stay → AreFound net f d order (place + 1) new after
+AreFound-own net f d order place firsts new next after from to stay in_order within is from_is to_is found skips takes = record {
   long = takes.long ∙ found.long;
   skips = skips;
   each = λ r low high.
@@ -107,7 +99,7 @@ AreFound-own net f d order place firsts new next after from to stay in_order wit
         | inr arrived ↦ elim (cases_lt r to) [
           | inr gone ↦ out (inr gone)
           | inl later ↦
-              let waits : WaitsAfter net f d r (slice_index order place) = record { within = inside; here = ap net.device (sym is) ∙ own; arrived = omega (arith, from_is, ap net.arrival is); later = omega (arith, to_is, ap f is) } in
+              let waits : WaitsAfter net f d r (slice_index order place) = record { within = inside; here = in_order.here place within; arrived = omega (arith, from_is, ap net.arrival is); later = omega (arith, to_is, ap f is) } in
               let go : (o : Option ℕ) → get_or firsts r None ≡ o → IsFound net f d r order place o → IsFound net f d r order (place + 1) (get_or new r None) = λ o. elim o as (λ (x : Option ℕ). get_or firsts r None ≡ x → IsFound net f d r order place x → IsFound net f d r order (place + 1) (get_or new r None)) [
                 | None ↦ λ e before. subst (IsFound net f d r order (place + 1)) (ap (λ (x : ℕ). Some x) (sym is) ∙ sym (takes.fresh r arrived later e)) (IsFound-fresh net f d r order place waits before)
                 | Some h ↦ λ e before. subst (IsFound net f d r order (place + 1)) (sym (takes.kept r (λ none. let clash : Some h ≡ None = sym e ∙ none in cc) ∙ e)) (IsFound-kept net f d r order place h in_order within before)
@@ -118,16 +110,16 @@ AreFound-own net f d order place firsts new next after from to stay in_order wit
 }
 
 -- after all stays those that are found are the first of all
-pub AreFirsts-done : (net : Instance) (f : ℕ → ℕ) (d : ℕ) (order : List ℕ) (firsts : List (Option ℕ)) (next : List ℕ) → AreInOrder ByWeight net order → AreFound net f d order net.stays firsts next → AreFirsts net f d firsts
+pub AreFirsts-done : (net : Instance) (f : ℕ → ℕ) (d : ℕ) (order : List ℕ) (firsts : List (Option ℕ)) (next : List ℕ) → IsOwnOrder net d order → AreFound net f d order (length order) firsts next → AreFirsts net f d firsts
 AreFirsts-done net f d order firsts next in_order found = λ r low high.
-    let go : (o : Option ℕ) → IsFound net f d r order net.stays o → IsFirstOrNobody net f d r o = λ o. elim o as (λ (x : Option ℕ). IsFound net f d r order net.stays x → IsFirstOrNobody net f d r x) [
+    let go : (o : Option ℕ) → IsFound net f d r order (length order) o → IsFirstOrNobody net f d r o = λ o. elim o as (λ (x : Option ℕ). IsFound net f d r order (length order) x → IsFirstOrNobody net f d r x) [
       | None ↦ λ none. λ s waits.
-          let place = in_order.place s waits.within in
+          let place = in_order.place s waits.within waits.here in
           none place.0 place.1 (subst (WaitsAfter net f d r) (sym place.2) waits)
       | Some h ↦ λ one. record {
         waits = one.waits;
         first = λ s waits apart.
-            let place = in_order.place s waits.within in
+            let place = in_order.place s waits.within waits.here in
             subst (λ (x : ℕ). goes_before ByWeight net h x ≡ true) place.2 (one.first place.0 place.1 (subst (WaitsAfter net f d r) (sym place.2) waits) (λ same. apart (sym place.2 ∙ same)));
       }
     ] in

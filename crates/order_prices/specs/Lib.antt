@@ -1,3 +1,4 @@
 pub mod ClosedPrices
 pub mod FirstWaiting
+pub mod OwnOrders
 pub mod Worth

@@ -4,23 +4,22 @@
 ghost use Rattle.std.specs.Prelude.{◌≡◌, ℕ, ◌+◌, ◌<◌, ◌≤◌, length, slice_index, IfOk};
 ghost use Rattle.round_net.specs.Rows.{instance_of_rows, live_of_rows};
 ghost use Rattle.round_net.specs.Sound.{IsSound};
-ghost use Rattle.orders.specs.Keys.{AreInOrder};
 ghost use Rattle.order_prices.specs.FirstWaiting.{AreFirsts, Skips, Takes};
+ghost use Rattle.order_prices.specs.OwnOrders.{IsOwnOrder};
 
-use orders::Order;
 use round_net::{Net, Schedule};
 use std::alloc::{AllocError, Global};
 
 /// For each round from 0 on, who of the stays that wait at the device after it goes before the others by weight; nobody if none
-/// waits.
+/// waits. `own` are the device's stays, in that order.
 pub(crate) fn first_waiting(
     alloc: Global,
     net: &Net,
     schedule: &Schedule,
-    order: &[u32],
+    own: &[u32],
     device: u32,
 ) -> Result<Vec<Option<u32>>, AllocError>
-    requires in_order { AreInOrder Order.ByWeight (instance_of_rows net.now) order.now }
+    requires own { IsOwnOrder (instance_of_rows net.now) device own.now }
     requires size { length schedule.now ≡ (instance_of_rows net.now).stays }
     requires sent { (s : ℕ) → s < (instance_of_rows net.now).stays → slice_index schedule.now s ≤ (instance_of_rows net.now).rounds }
     ensures long { IfOk result (λ firsts. length firsts.items ≡ (instance_of_rows net.now).rounds + 1) }
@@ -29,11 +28,9 @@ pub(crate) fn first_waiting(
     let places = net.rounds() as usize + 1;
     let mut firsts = vec![in alloc; None; places]?;
     let mut next = each_itself(alloc, places)?;
-    for stay in order {
-        if net.device(*stay) == device {
-            let (from, to) = (net.arrival(*stay), schedule.round(*stay));
-            take(&mut firsts, &mut next, from, to, *stay);
-        }
+    for stay in own {
+        let (from, to) = (net.arrival(*stay), schedule.round(*stay));
+        take(&mut firsts, &mut next, from, to, *stay);
     }
     Ok(firsts)
 }

@@ -7,4 +7,5 @@ pub use pricing::closed_prices;
 
 mod first_waiting;
 mod laws;
+mod own_orders;
 mod pricing;

@@ -11,6 +11,7 @@ ghost use Rattle.order_prices.specs.FirstWaiting.{AreFirsts};
 ghost use Rattle.order_prices.specs.Worth.{worth_at, IsFilled, IsSmallWorth};
 
 use crate::first_waiting::first_waiting;
+use crate::own_orders::own_orders;
 use orders::{Order, in_order};
 use round_net::{Net, Prices, Schedule, cell};
 use std::alloc::{AllocError, Global};
@@ -25,9 +26,10 @@ pub fn closed_prices(alloc: Global, net: &Net, schedule: &Schedule) -> Result<Pr
     ensures closed { IfOk result (λ prices. AreClosedPrices (instance_of_rows net.now) (slice_index schedule.now) (pricing_of_rows prices)) }
 {
     let order = in_order(alloc, net, Order::ByWeight)?;
+    let own = own_orders(alloc, net, &order)?;
     let mut worth = vec![in alloc; 0; net.cells()]?;
     for device in 0..net.devices() {
-        let firsts = first_waiting(alloc, net, schedule, &order, device)?;
+        let firsts = first_waiting(alloc, net, schedule, &own[device as usize], device)?;
         fill(net, schedule, device, &firsts, &mut worth);
     }
     Ok(Prices::listed(net, worth))

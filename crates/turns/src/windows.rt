@@ -9,8 +9,9 @@ use crate::giving::in_turn;
 use std::alloc::{AllocError, Global};
 
 /// The same rounds within the windows of these stays, which stand in the order of their turns, so that none has a round past
-/// that of a later one if each could have the other's. If all windows reach the end, it takes little more time than to sort
-/// the rounds. If one doesn't, pairs change rounds; the rounds of more than 4,096 such stays are left as they are.
+/// that of a later one if each could have the other's. Rounds that rise are left as they are. If all windows reach the end, it
+/// takes little more time than to sort the rounds. If one doesn't, pairs change rounds; the rounds of more than 4,096 such stays
+/// are left as they are.
 pub fn in_turn_within(
     alloc: Global,
     arrivals: &[u32],
@@ -26,6 +27,10 @@ pub fn in_turn_within(
     ensures windows { IfOk result (λ answer. HaveWindows arrivals.now lasts.now answer.items) }
     ensures in_turn { IfOk result (λ answer. ¬ AreSpared end lasts.now → AreInTurnWithin arrivals.now lasts.now answer.items) }
 {
+    if are_rising(rounds) {
+        let answer = rounds.to_vec(alloc)?;
+        return Ok(answer);
+    }
     if all_reach(lasts, end) {
         let answer = in_turn(alloc, arrivals, rounds)?;
         return Ok(answer);
@@ -35,6 +40,18 @@ pub fn in_turn_within(
         exchange(arrivals, lasts, &mut answer);
     }
     Ok(answer)
+}
+
+// Whether no round is past a later one.
+fn are_rising(rounds: &[u32]) -> bool
+    ensures { result ≡ true → (i j : ℕ) → i < j → j < length rounds.now → slice_index rounds.now i ≤ slice_index rounds.now j }
+{
+    for place in 1..rounds.len() {
+        if rounds[place] < rounds[place - 1] {
+            return false;
+        }
+    }
+    true
 }
 
 // Whether all windows reach the end.

@@ -4,4 +4,4 @@ use Rattle.order_prices.proofs.FirstLemmas.{AreFound}
 use Rattle.order_prices.proofs.first_waiting.first_waiting.Given as goal
 
 abbrev pub invariant-loop-stay : goal.invariant-loop-stay
-invariant-loop-stay l = AreFound (instance_of_rows l.net) (slice_index l.schedule) l.device l.order l.stay-index l.firsts.items l.next.items
+invariant-loop-stay l = AreFound (instance_of_rows l.net) (slice_index l.schedule) l.device l.own l.stay-index l.firsts.items l.next.items

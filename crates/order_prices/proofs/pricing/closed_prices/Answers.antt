@@ -9,7 +9,7 @@ loop-device-preserved c =
     let net = instance_of_rows c.args.net.now in
     let f = slice_index c.args.schedule.now in
     let firsts : List (Option ℕ) = c.in_ok-firsts.firsts.items in
-    AreWorths-more net f c.loop-device.device firsts c.loop-device.worth.items c.fill.new.worth.items c.requires.sent c.in_ok-firsts.ensures.each c.loop-device.invariant (subst (λ (xs : List (Option ℕ)). IsFilled net f c.loop-device.device xs c.loop-device.worth.items c.fill.new.worth.items) c.deref-in-loop-device.ensures.value c.fill.ensures)
+    AreWorths-more net f c.loop-device.device firsts c.loop-device.worth.items c.fill.new.worth.items c.requires.sent c.in_ok-firsts.ensures.each c.loop-device.invariant (subst (λ (xs : List (Option ℕ)). IsFilled net f c.loop-device.device xs c.loop-device.worth.items c.fill.new.worth.items) c.deref-in-loop-device-2.ensures.value c.fill.ensures)
 
 pub listed-requires-clause-small : goal.listed-requires-clause-small
 listed-requires-clause-small c =

@@ -5,7 +5,7 @@ use Rattle.turns.proofs.windows.in_turn_within.Goals as goal
 use Rattle.turns.proofs.windows.in_turn_within.Goals.{then-rounds-le-FEW_STAYS, else-rounds-le-FEW_STAYS}
 
 pub returns-then-all_reach-clause-windows : goal.returns-then-all_reach-clause-windows
-returns-then-all_reach-clause-windows c = HaveWindows-open _ _ _ _ c.args.end c.requires.long c.requires.lasts (c.all_reach.ensures.yes c.if-all_reach.true) c.requires.windows c.in_ok-answer.ensures.permutation c.in_ok-answer.ensures.arrived
+returns-then-all_reach-clause-windows c = HaveWindows-open _ _ _ _ c.args.end c.requires.long c.requires.lasts (c.all_reach.ensures.yes c.if-all_reach.true) c.requires.windows c.in_ok-answer-2.ensures.permutation c.in_ok-answer-2.ensures.arrived
 
 pub returns-clause-in_turn : goal.returns-clause-in_turn
 returns-clause-in_turn c =

@@ -23,7 +23,12 @@ pub(crate) fn who_of(
     ensures { IfOk result (λ lists. AreWho explanation.now by lists.items) }
 {
     let devices = explanation.devices();
-    let own = groups_of(alloc, explanation.stays(), Grouping::Device, devices as usize)?;
+    let own = groups_of(
+        alloc,
+        explanation.stays(),
+        Grouping::Device,
+        devices as usize,
+    )?;
     let mut lists = Vec::with_capacity(alloc, devices as usize)?;
     for device in 0..devices {
         let ways = in_way_of(alloc, explanation, device, &own[device as usize])?;

@@ -56,8 +56,8 @@ own_more net order n d own in_order within at so_far =
     let old : (i : ℕ) → i < length own → slice_index new i ≡ slice_index own i = λ i less. get_or_append_left own (x ∷ []) 0 i less in
     let last : slice_index new (length own) ≡ x = get_or_push own x 0 (length own) refl in
     let goes : (i : ℕ) → i < length own → goes_before ByWeight net (slice_index own i) x ≡ true = λ i less.
-        let k = so_far.from i less in
-        subst (λ (s : ℕ). goes_before ByWeight net s x ≡ true) k.2 (in_order.before k.0 n k.1 (omega (arith, in_order.long, within))) in
+    let k = so_far.from i less in
+    subst (λ (s : ℕ). goes_before ByWeight net s x ≡ true) k.2 (in_order.before k.0 n k.1 (omega (arith, in_order.long, within))) in
     record {
       from = λ i less. elim (cases_eq i (length own)) [
         | inl same ↦ (n, omega arith, sym (ap (slice_index new) same ∙ last))

@@ -1,8 +1,8 @@
 /*
  * camxpt.h - a CAM transport for disk drivers: CCBs, queues, openings, freezes and recovery from errors.
  *
- * What each function of libcamxpt_c.a does is proved of its source, which is written in Rattle (crates/camxpt_c). The functions
- * below test the pointers that they are given, and call it. What a caller owes is not tested, unless a code is named for it:
+ * What the library does is proved of its source, which is written in Rattle (crates/camxpt_c). The functions below test the
+ * pointers that they are given, and call that. What a caller owes is not tested, unless a code is named for it:
  *
  *   - A handle is a struct camxpt of your own. Begin with CAMXPT_INIT: that is a closed handle, as is one whose bytes are all
  *     zero. A call on a closed handle answers CAMXPT_E_CLOSED and does nothing, also after camxpt_close. A call on a copy of a
@@ -16,14 +16,15 @@
  *   - A null pointer answers CAMXPT_E_NULL, unless it is an array of length 0. No other wrong pointer is noticed.
  *   - No call comes from a signal handler, or in the child of a fork of a process with threads. Memory is this program's
  *     malloc, realloc and free. Only camxpt_open, camxpt_open_with, camxpt_carry, camxpt_trace and camxpt_recording ask for
- *     any.
+ *     any. A longjmp out of malloc loses the handle: it answers CAMXPT_E_CLOSED then, and its memory isn't freed.
+ *   - camxpt_trace and camxpt_recording take up to 128 kB of the stack. The other calls take less.
  *
  * A transport takes 65,535 events, 512 rounds and 4,096 stays at most (a stay is one passage of a CCB through its queue, so a
  * submit or a requeue begins one). A driver that runs longer carries what waits over to a fresh transport by camxpt_carry, at
  * the end of a round in which all results are in. If it keeps its requests in an array, camxpt_recording writes what all the
  * transports did as one recording, for `camxpt audit`. docs/c.md shows how.
  *
- * Link with libcamxpt_c.a, and after it with liblibc_c.a of the Rattle kit: cc driver.c -L. -lcamxpt_c -llibc_c
+ * Link with libcamxpt.a or libcamxpt.so.1: cc driver.c -lcamxpt
  */
 #ifndef CAMXPT_H
 #define CAMXPT_H
@@ -44,6 +45,12 @@ extern "C" {
 #else
 #define CAMXPT_NODISCARD
 #endif
+
+/** The version of this header, as `camxpt --version` has it. */
+#define CAMXPT_VERSION "0.5.2"
+
+/** The version of the library: CAMXPT_VERSION if it is of this header. */
+const char *camxpt_version(void);
 
 /* The layout that the library was built with. */
 #define CAMXPT_SIZE_(name, size) CAMXPT_ASSERT_(sizeof(name) == (size), "size of " #name)
@@ -128,74 +135,9 @@ enum {
 /** Whether the code says that a lane had nothing to send. */
 #define CAMXPT_IS_IDLE(code) ((code) >= CAMXPT_IDLE_EMPTY && (code) <= CAMXPT_IDLE_DEVICES_HELD)
 
-/** The name of a code, as traces, reports and the other documents have it; "Unknown" for a number that is none. */
-static inline const char *camxpt_code_name(camxpt_code code)
-{
-    switch (code) {
-    case CAMXPT_OK: return "Ok";
-    case CAMXPT_E_CLOSED: return "Closed";
-    case CAMXPT_E_OPEN: return "Open";
-    case CAMXPT_E_MEMORY: return "OutOfMemory";
-    case CAMXPT_E_LIMIT: return "BadLimit";
-    case CAMXPT_E_SPACE: return "NoSpace";
-    case CAMXPT_E_NULL: return "Null";
-    case CAMXPT_E_COPIED: return "Copied";
-    case CAMXPT_E_KIND: return "BadKind";
-    case CAMXPT_E_UNIT: return "BadUnit";
-    case CAMXPT_E_ROUNDS: return "BadRounds";
-    case CAMXPT_E_REQUESTS: return "TooManyRequests";
-    case CAMXPT_E_CAP: return "BadCap";
-    case CAMXPT_E_DONE: return "BadDone";
-    case CAMXPT_HISTORY_FULL: return "HistoryFull";
-    case CAMXPT_NO_DEVICE: return "NoDevice";
-    case CAMXPT_NO_ADAPTER: return "NoAdapter";
-    case CAMXPT_NO_LANE: return "NoLane";
-    case CAMXPT_NO_CCB: return "NoCcb";
-    case CAMXPT_BAD_PRIORITY: return "BadPriority";
-    case CAMXPT_BAD_RETRIES: return "BadRetries";
-    case CAMXPT_BAD_COUNT: return "BadCount";
-    case CAMXPT_BAD_OPENINGS: return "BadOpenings";
-    case CAMXPT_BAD_STATUS: return "BadStatus";
-    case CAMXPT_CCB_FULL: return "CcbFull";
-    case CAMXPT_STAYS_FULL: return "StaysFull";
-    case CAMXPT_NOT_QUEUED: return "NotQueued";
-    case CAMXPT_WRONG_LANE: return "WrongLane";
-    case CAMXPT_DEVICE_FROZEN: return "DeviceFrozen";
-    case CAMXPT_ADAPTER_FROZEN: return "AdapterFrozen";
-    case CAMXPT_NO_OPENING: return "NoOpening";
-    case CAMXPT_NOT_HEAD: return "NotHead";
-    case CAMXPT_NOT_IN_FLIGHT: return "NotInFlight";
-    case CAMXPT_NOT_RECOVERING: return "NotRecovering";
-    case CAMXPT_WRONG_DECISION: return "WrongDecision";
-    case CAMXPT_FREEZE_OVERFLOW: return "FreezeOverflow";
-    case CAMXPT_RELEASE_TOO_MANY: return "ReleaseTooMany";
-    case CAMXPT_IN_FLIGHT: return "InFlight";
-    case CAMXPT_ROUNDS_FULL: return "RoundsFull";
-    case CAMXPT_IDLE_EMPTY: return "Empty";
-    case CAMXPT_IDLE_ADAPTER_FROZEN: return "AdapterFrozen";
-    case CAMXPT_IDLE_ADAPTER_BUSY: return "AdapterBusy";
-    case CAMXPT_IDLE_DEVICES_HELD: return "DevicesHeld";
-    case CAMXPT_NONE: return "None";
-    case CAMXPT_UNDECIDED: return "Undecided";
-    case CAMXPT_FAULT_NO_ADAPTERS: return "NoAdapters";
-    case CAMXPT_FAULT_TOO_MANY: return "TooMany";
-    case CAMXPT_FAULT_BAD_OPENINGS: return "BadOpenings";
-    case CAMXPT_FAULT_NO_ADAPTER: return "NoAdapter";
-    case CAMXPT_FAULT_BAD_ADDRESS: return "BadAddress";
-    case CAMXPT_FAULT_DOUBLE_DEVICE: return "DoubleDevice";
-    case CAMXPT_FAULT_BAD_WEIGHT: return "BadWeight";
-    case CAMXPT_FAULT_NO_LINK: return "NoLink";
-    case CAMXPT_CAUSE_NO_DEVICE: return "NoDevice";
-    case CAMXPT_CAUSE_BAD_PRIORITY: return "BadPriority";
-    case CAMXPT_CAUSE_BAD_WINDOW: return "BadWindow";
-    case CAMXPT_CAUSE_EARLY: return "Early";
-    case CAMXPT_CAUSE_LATE: return "Late";
-    case CAMXPT_CAUSE_DEVICE_FULL: return "DeviceFull";
-    case CAMXPT_CAUSE_ADAPTER_FULL: return "AdapterFull";
-    case CAMXPT_CAUSE_LINK_FULL: return "LinkFull";
-    default: return "Unknown";
-    }
-}
+/** The name of a code, no two alike, or "Unknown" for a number that is none. A refusal, a rule and a cause are named as in traces,
+ *  reports and the other documents, with Idle, Fault or Cause before it: CAMXPT_IDLE_ADAPTER_FROZEN is IdleAdapterFrozen. */
+const char *camxpt_code_name(camxpt_code code);
 
 /* CAM statuses with the names and numbers of FreeBSD's cam.h, which is included before this header where both are wanted. The
  * transport knows the first ten; any other but 0 is a failure that no retry would help. */
@@ -480,246 +422,88 @@ CAMXPT_AT_(camxpt_request, start, 16);
 CAMXPT_AT_(camxpt_request, driver, 20);
 CAMXPT_AT_(camxpt_request, done, 24);
 
-/* ---- the library's own symbols. Call the functions below them, which test for null: here no pointer may be null -------- */
-
-camxpt_code camxpt_raw_open(camxpt_raw *x, const uint32_t *adapters, size_t adapter_count, const camxpt_device *devices,
-                            size_t device_count, const uint32_t *lanes, size_t lane_count, const camxpt_limits *limits);
-camxpt_code camxpt_raw_open_with(camxpt_raw *x, const camxpt_weight *weights, size_t weight_count, const uint32_t *links,
-                                 size_t link_count, const camxpt_adapter *adapters, size_t adapter_count,
-                                 const camxpt_device *devices, size_t device_count, const uint32_t *lanes, size_t lane_count,
-                                 const camxpt_limits *limits);
-camxpt_code camxpt_raw_close(camxpt_raw *x);
-camxpt_code camxpt_raw_submit(camxpt_raw *x, uint8_t driver, uint32_t device, uint32_t priority, uint32_t retries, bool qfreeze,
-                              bool qfrzdis, uint32_t *ccb);
-camxpt_code camxpt_raw_send_next(camxpt_raw *x, uint32_t lane, camxpt_command *command);
-camxpt_code camxpt_raw_done(camxpt_raw *x, uint32_t ccb, uint8_t status, uint8_t scsi, const uint8_t *sense, size_t sense_len,
-                            camxpt_completion *done);
-camxpt_code camxpt_raw_requeue(camxpt_raw *x, uint32_t ccb);
-camxpt_code camxpt_raw_finish(camxpt_raw *x, uint32_t ccb);
-camxpt_code camxpt_raw_freeze_dev(camxpt_raw *x, uint32_t device, uint32_t count);
-camxpt_code camxpt_raw_release_dev(camxpt_raw *x, uint32_t device, uint32_t count);
-camxpt_code camxpt_raw_freeze_sim(camxpt_raw *x, uint32_t sim, uint32_t count);
-camxpt_code camxpt_raw_release_sim(camxpt_raw *x, uint32_t sim);
-camxpt_code camxpt_raw_adjust(camxpt_raw *x, uint32_t device, uint32_t openings);
-camxpt_code camxpt_raw_tick(camxpt_raw *x, uint32_t *round);
-camxpt_code camxpt_raw_has_head(camxpt_raw *x, uint32_t lane);
-camxpt_code camxpt_raw_next_case(camxpt_raw *x, camxpt_case *found);
-camxpt_code camxpt_raw_look(camxpt_raw *x, camxpt_counts *counts);
-camxpt_code camxpt_raw_take(camxpt_raw *x, const camxpt_event *event);
-camxpt_code camxpt_raw_refusal(camxpt_raw *x, const camxpt_event *event);
-camxpt_code camxpt_raw_events(camxpt_raw *x, uint32_t first, camxpt_event *events, size_t room, size_t *copied);
-camxpt_code camxpt_raw_trace(camxpt_raw *x, uint8_t *buffer, size_t room, size_t *needed);
-camxpt_code camxpt_raw_carry(camxpt_raw *from, camxpt_raw *to, const camxpt_limits *limits, uint32_t *numbers, size_t room,
-                             size_t *count);
-camxpt_code camxpt_raw_recording(const camxpt_weight *weights, size_t weight_count, const uint32_t *links, size_t link_count,
-                                 const camxpt_adapter *adapters, size_t adapter_count, const camxpt_device *devices,
-                                 size_t device_count, const camxpt_span *unit, uint32_t rounds, const camxpt_cap *caps,
-                                 size_t cap_count, const camxpt_request *requests, size_t request_count, uint8_t *buffer,
-                                 size_t room, size_t *needed, size_t *wrong);
-
 /* ---- calls -------------------------------------------------------------------------------------------------------------- */
 
-/* What is wrong with a handle that has to be open. */
-static inline camxpt_code camxpt_bad_(const camxpt *x)
-{
-    if (!x)
-        return CAMXPT_E_NULL;
-    if (x->self_ == x)
-        return CAMXPT_OK;
-    return x->self_ ? CAMXPT_E_COPIED : CAMXPT_E_CLOSED;
-}
-
-#define CAMXPT_CALL_(x, pointers, call) \
-    (camxpt_bad_(x) != CAMXPT_OK ? camxpt_bad_(x) : (pointers) ? (call) : (camxpt_code)CAMXPT_E_NULL)
-
 /** Opens a closed handle, in round 1 and without events: adapters of these openings (1 to 8, of 1 to 255 openings each),
- *  devices (up to 32), and a lane on each of these adapters (up to 4 of each), with the standard table of weights. All memory
- *  that the transport will need is taken here.
+ *  devices (up to 32: no more are read, whatever their count is), and a lane on each of these adapters (up to 4 of each), with
+ *  the standard table of weights. All memory that the transport will need is taken here.
  *  Answers CAMXPT_E_OPEN, CAMXPT_E_LIMIT, CAMXPT_E_MEMORY or a CAMXPT_FAULT_*; then the handle is as it was. */
-CAMXPT_NODISCARD static inline camxpt_code camxpt_open(camxpt *x, const uint32_t *adapters, size_t adapter_count,
-                                                       const camxpt_device *devices, size_t device_count,
-                                                       const uint32_t *lanes, size_t lane_count, const camxpt_limits *limits)
-{
-    static const uint32_t no_number = 0;
-    static const camxpt_device no_device = {0, 0, 0, 0};
-    camxpt_code code;
-
-    if (!x || !limits || (!adapters && adapter_count) || (!devices && device_count) || (!lanes && lane_count))
-        return CAMXPT_E_NULL;
-    if (x->self_)
-        return x->self_ == x ? CAMXPT_E_OPEN : CAMXPT_E_COPIED;
-    code = camxpt_raw_open(&x->raw_, adapters ? adapters : &no_number, adapter_count, devices ? devices : &no_device,
-                           device_count, lanes ? lanes : &no_number, lane_count, limits);
-    if (code == CAMXPT_OK)
-        x->self_ = x;
-    return code;
-}
+CAMXPT_NODISCARD camxpt_code camxpt_open(camxpt *x, const uint32_t *adapters, size_t adapter_count,
+                                         const camxpt_device *devices, size_t device_count, const uint32_t *lanes,
+                                         size_t lane_count, const camxpt_limits *limits);
 
 /** The same by a configuration, with its own table of weights, with links, and with adapters on them. */
-CAMXPT_NODISCARD static inline camxpt_code camxpt_open_with(camxpt *x, const camxpt_config *c, const camxpt_limits *limits)
-{
-    static const camxpt_weight no_weight = {0, 0};
-    static const uint32_t no_number = 0;
-    static const camxpt_adapter no_adapter = {0, 0};
-    static const camxpt_device no_device = {0, 0, 0, 0};
-    camxpt_code code;
-
-    if (!x || !c || !limits || (!c->weights && c->weight_count) || (!c->links && c->link_count) ||
-        (!c->adapters && c->adapter_count) || (!c->devices && c->device_count) || (!c->lanes && c->lane_count))
-        return CAMXPT_E_NULL;
-    if (x->self_)
-        return x->self_ == x ? CAMXPT_E_OPEN : CAMXPT_E_COPIED;
-    code = camxpt_raw_open_with(&x->raw_, c->weights ? c->weights : &no_weight, c->weight_count,
-                                c->links ? c->links : &no_number, c->link_count, c->adapters ? c->adapters : &no_adapter,
-                                c->adapter_count, c->devices ? c->devices : &no_device, c->device_count,
-                                c->lanes ? c->lanes : &no_number, c->lane_count, limits);
-    if (code == CAMXPT_OK)
-        x->self_ = x;
-    return code;
-}
+CAMXPT_NODISCARD camxpt_code camxpt_open_with(camxpt *x, const camxpt_config *c, const camxpt_limits *limits);
 
 /** Closes the handle and frees all memory of its transport. On a closed handle it does no harm. */
-static inline camxpt_code camxpt_close(camxpt *x)
-{
-    const camxpt_code bad = camxpt_bad_(x);
-
-    if (bad != CAMXPT_OK)
-        return bad;
-    x->self_ = NULL;
-    return camxpt_raw_close(&x->raw_);
-}
+camxpt_code camxpt_close(camxpt *x);
 
 /** Submits a CCB of the driver to the device, and sets *ccb to its number. A priority is 0 to 1279, retries are 0 to 7. With
  *  qfreeze each send of the CCB freezes its device by one; with qfrzdis its failures don't freeze it.
  *  Refused: HISTORY_FULL, NO_DEVICE, BAD_PRIORITY, BAD_RETRIES, CCB_FULL, STAYS_FULL. */
-CAMXPT_NODISCARD static inline camxpt_code camxpt_submit(camxpt *x, uint8_t driver, uint32_t device, uint32_t priority,
-                                                         uint32_t retries, bool qfreeze, bool qfrzdis, uint32_t *ccb)
-{
-    return CAMXPT_CALL_(x, ccb, camxpt_raw_submit(&x->raw_, driver, device, priority, retries, qfreeze, qfrzdis, ccb));
-}
+CAMXPT_NODISCARD camxpt_code camxpt_submit(camxpt *x, uint8_t driver, uint32_t device, uint32_t priority, uint32_t retries,
+                                           bool qfreeze, bool qfrzdis, uint32_t *ccb);
 
 /** Sends the next command of the lane's adapter, and sets *command to it; or the lane is idle (CAMXPT_IS_IDLE).
  *  Refused: HISTORY_FULL, NO_LANE. */
-CAMXPT_NODISCARD static inline camxpt_code camxpt_send_next(camxpt *x, uint32_t lane, camxpt_command *command)
-{
-    return CAMXPT_CALL_(x, command, camxpt_raw_send_next(&x->raw_, lane, command));
-}
+CAMXPT_NODISCARD camxpt_code camxpt_send_next(camxpt *x, uint32_t lane, camxpt_command *command);
 
 /** The command that was sent as this CCB has completed, with this CAM status, SCSI status and sense data, of which the first 18
  *  bytes are kept. Sets *done to what that comes to.
  *  Refused: HISTORY_FULL, NO_CCB, BAD_STATUS, NOT_IN_FLIGHT. */
-CAMXPT_NODISCARD static inline camxpt_code camxpt_done(camxpt *x, uint32_t ccb, uint8_t status, uint8_t scsi,
-                                                       const uint8_t *sense, size_t sense_len, camxpt_completion *done)
-{
-    static const uint8_t no_byte = 0;
-
-    return CAMXPT_CALL_(x, done && (sense || !sense_len),
-                        camxpt_raw_done(&x->raw_, ccb, status, scsi, sense ? sense : &no_byte, sense_len, done));
-}
+CAMXPT_NODISCARD camxpt_code camxpt_done(camxpt *x, uint32_t ccb, uint8_t status, uint8_t scsi, const uint8_t *sense,
+                                         size_t sense_len, camxpt_completion *done);
 
 /** Puts a CCB that failed back into its device's queue, from the next round on.
  *  Refused: HISTORY_FULL, NO_CCB, STAYS_FULL, NOT_RECOVERING, WRONG_DECISION (its class asks for camxpt_finish). */
-CAMXPT_NODISCARD static inline camxpt_code camxpt_requeue(camxpt *x, uint32_t ccb)
-{
-    return CAMXPT_CALL_(x, true, camxpt_raw_requeue(&x->raw_, ccb));
-}
+CAMXPT_NODISCARD camxpt_code camxpt_requeue(camxpt *x, uint32_t ccb);
 
 /** Gives a CCB that failed back to its driver, which ends it.
  *  Refused: HISTORY_FULL, NO_CCB, NOT_RECOVERING, WRONG_DECISION (its class asks for camxpt_requeue). */
-CAMXPT_NODISCARD static inline camxpt_code camxpt_finish(camxpt *x, uint32_t ccb)
-{
-    return CAMXPT_CALL_(x, true, camxpt_raw_finish(&x->raw_, ccb));
-}
+CAMXPT_NODISCARD camxpt_code camxpt_finish(camxpt *x, uint32_t ccb);
 
 /** Freezes the device's queue that many times, 1 to 65,535. Refused: HISTORY_FULL, NO_DEVICE, BAD_COUNT, FREEZE_OVERFLOW. */
-CAMXPT_NODISCARD static inline camxpt_code camxpt_freeze_dev(camxpt *x, uint32_t device, uint32_t count)
-{
-    return CAMXPT_CALL_(x, true, camxpt_raw_freeze_dev(&x->raw_, device, count));
-}
+CAMXPT_NODISCARD camxpt_code camxpt_freeze_dev(camxpt *x, uint32_t device, uint32_t count);
 
 /** Takes that many freezes of the device away, 1 to 65,535, of those that callers made.
  *  Refused: HISTORY_FULL, NO_DEVICE, BAD_COUNT, RELEASE_TOO_MANY. */
-CAMXPT_NODISCARD static inline camxpt_code camxpt_release_dev(camxpt *x, uint32_t device, uint32_t count)
-{
-    return CAMXPT_CALL_(x, true, camxpt_raw_release_dev(&x->raw_, device, count));
-}
+CAMXPT_NODISCARD camxpt_code camxpt_release_dev(camxpt *x, uint32_t device, uint32_t count);
 
 /** Freezes the adapter that many times, 1 to 65,535. Refused: HISTORY_FULL, NO_ADAPTER, BAD_COUNT, FREEZE_OVERFLOW. */
-CAMXPT_NODISCARD static inline camxpt_code camxpt_freeze_sim(camxpt *x, uint32_t sim, uint32_t count)
-{
-    return CAMXPT_CALL_(x, true, camxpt_raw_freeze_sim(&x->raw_, sim, count));
-}
+CAMXPT_NODISCARD camxpt_code camxpt_freeze_sim(camxpt *x, uint32_t sim, uint32_t count);
 
 /** Takes one freeze of the adapter away. Refused: HISTORY_FULL, NO_ADAPTER, RELEASE_TOO_MANY. */
-CAMXPT_NODISCARD static inline camxpt_code camxpt_release_sim(camxpt *x, uint32_t sim)
-{
-    return CAMXPT_CALL_(x, true, camxpt_raw_release_sim(&x->raw_, sim));
-}
+CAMXPT_NODISCARD camxpt_code camxpt_release_sim(camxpt *x, uint32_t sim);
 
 /** Gives the device that many openings, 1 to 255, from the next round on. Refused: HISTORY_FULL, NO_DEVICE, BAD_OPENINGS. */
-CAMXPT_NODISCARD static inline camxpt_code camxpt_adjust(camxpt *x, uint32_t device, uint32_t openings)
-{
-    return CAMXPT_CALL_(x, true, camxpt_raw_adjust(&x->raw_, device, openings));
-}
+CAMXPT_NODISCARD camxpt_code camxpt_adjust(camxpt *x, uint32_t device, uint32_t openings);
 
 /** Opens the next round, and sets *round to its number. Refused: HISTORY_FULL, IN_FLIGHT, ROUNDS_FULL. */
-CAMXPT_NODISCARD static inline camxpt_code camxpt_tick(camxpt *x, uint32_t *round)
-{
-    return CAMXPT_CALL_(x, round, camxpt_raw_tick(&x->raw_, round));
-}
+CAMXPT_NODISCARD camxpt_code camxpt_tick(camxpt *x, uint32_t *round);
 
 /** Whether the lane's adapter has something to send: CAMXPT_OK, or CAMXPT_NONE, also for a lane that isn't there. */
-CAMXPT_NODISCARD static inline camxpt_code camxpt_has_head(camxpt *x, uint32_t lane)
-{
-    return CAMXPT_CALL_(x, true, camxpt_raw_has_head(&x->raw_, lane));
-}
+CAMXPT_NODISCARD camxpt_code camxpt_has_head(camxpt *x, uint32_t lane);
 
 /** Sets *found to the CCB that completed first of those that wait for a decision; CAMXPT_NONE if none waits. */
-CAMXPT_NODISCARD static inline camxpt_code camxpt_next_case(camxpt *x, camxpt_case *found)
-{
-    return CAMXPT_CALL_(x, found, camxpt_raw_next_case(&x->raw_, found));
-}
+CAMXPT_NODISCARD camxpt_code camxpt_next_case(camxpt *x, camxpt_case *found);
 
 /** Sets *counts to what there is to see. */
-CAMXPT_NODISCARD static inline camxpt_code camxpt_look(camxpt *x, camxpt_counts *counts)
-{
-    return CAMXPT_CALL_(x, counts, camxpt_raw_look(&x->raw_, counts));
-}
+CAMXPT_NODISCARD camxpt_code camxpt_look(camxpt *x, camxpt_counts *counts);
 
 /** Takes an event of any kind, as the call of that kind does, and with its refusals. A send is refused with the first of
  *  HISTORY_FULL, NO_LANE, NO_CCB, NOT_QUEUED, WRONG_LANE, DEVICE_FROZEN, ADAPTER_FROZEN, NO_OPENING and NOT_HEAD. */
-CAMXPT_NODISCARD static inline camxpt_code camxpt_take(camxpt *x, const camxpt_event *event)
-{
-    return CAMXPT_CALL_(x, event, camxpt_raw_take(&x->raw_, event));
-}
+CAMXPT_NODISCARD camxpt_code camxpt_take(camxpt *x, const camxpt_event *event);
 
 /** What camxpt_take would answer now. It takes nothing. */
-CAMXPT_NODISCARD static inline camxpt_code camxpt_refusal(camxpt *x, const camxpt_event *event)
-{
-    return CAMXPT_CALL_(x, event, camxpt_raw_refusal(&x->raw_, event));
-}
+CAMXPT_NODISCARD camxpt_code camxpt_refusal(camxpt *x, const camxpt_event *event);
 
 /** Copies the events so far from number `first` on, numbered from 0, as many as there are and there is room for, and sets
  *  *copied to how many these are. */
-CAMXPT_NODISCARD static inline camxpt_code camxpt_events(camxpt *x, uint32_t first, camxpt_event *events, size_t room,
-                                                         size_t *copied)
-{
-    camxpt_event no_event;
-
-    no_event.kind = 0;
-    return CAMXPT_CALL_(x, copied && (events || !room),
-                        camxpt_raw_events(&x->raw_, first, events ? events : &no_event, room, copied));
-}
+CAMXPT_NODISCARD camxpt_code camxpt_events(camxpt *x, uint32_t first, camxpt_event *events, size_t room, size_t *copied);
 
 /** Writes the trace of all events so far into the buffer, without a zero byte behind it, and sets *needed to its length. At
  *  CAMXPT_E_SPACE *needed is set too, so a call with (NULL, 0) asks for the length. `camxpt audit` takes such a trace. */
-CAMXPT_NODISCARD static inline camxpt_code camxpt_trace(camxpt *x, void *buffer, size_t room, size_t *needed)
-{
-    uint8_t no_byte = 0;
-
-    return CAMXPT_CALL_(x, needed && (buffer || !room),
-                        camxpt_raw_trace(&x->raw_, buffer ? (uint8_t *)buffer : &no_byte, room, needed));
-}
+CAMXPT_NODISCARD camxpt_code camxpt_trace(camxpt *x, void *buffer, size_t room, size_t *needed);
 
 /** Opens the closed handle `to` with what waits in `from`, which stays as it is: how to go on if a transport comes to its
  *  limits. It is called at the end of a round in place of camxpt_tick, when all results are in and all cases are decided.
@@ -735,30 +519,15 @@ CAMXPT_NODISCARD static inline camxpt_code camxpt_trace(camxpt *x, void *buffer,
  *  CAMXPT_UNDECIDED if a CCB waits for a decision; ROUNDS_FULL, CCB_FULL, STAYS_FULL or HISTORY_FULL if the limits have no room
  *  for a second round and what waits (CAMXPT_MOST always has); or CAMXPT_E_SPACE if there are more numbers than room for them:
  *  then *count is set. 1,024 are always enough. */
-CAMXPT_NODISCARD static inline camxpt_code camxpt_carry(camxpt *from, camxpt *to, const camxpt_limits *limits,
-                                                        uint32_t *numbers, size_t room, size_t *count)
-{
-    uint32_t no_number = 0;
-    camxpt_code code = camxpt_bad_(from);
-
-    if (code != CAMXPT_OK)
-        return code;
-    if (!to || !limits || !count || (!numbers && room))
-        return CAMXPT_E_NULL;
-    if (to->self_)
-        return to->self_ == to ? CAMXPT_E_OPEN : CAMXPT_E_COPIED;
-    code = camxpt_raw_carry(&from->raw_, &to->raw_, limits, numbers ? numbers : &no_number, room, count);
-    if (code == CAMXPT_OK)
-        to->self_ = to;
-    return code;
-}
+CAMXPT_NODISCARD camxpt_code camxpt_carry(camxpt *from, camxpt *to, const camxpt_limits *limits, uint32_t *numbers,
+                                          size_t room, size_t *count);
 
 /** Writes a recording into the buffer, without a zero byte behind it: what some scheduler did with these requests in rounds 1
  *  to `rounds`, which are at most 65,535. It needs no handle. `camxpt audit`, `explain` and `draw` take such a text. *needed is
  *  set to its length, at CAMXPT_E_SPACE too, so a call with (NULL, 0) asks for the length.
  *
  *  The configuration is as for camxpt_open_with, but its lanes aren't read: a recording has none. The unit says how long a
- *  round is; it may be null. There may be at most 1,048,576 requests, in any order. If one of them says when it was completed,
+ *  round is; it may be null, and has to be a unit also where its count is 0. There may be at most 1,048,576 requests, in any order. If one of them says when it was completed,
  *  the text is of version 2, `camrecord2`, which says so of each that does.
  *
  *  Answers what is wrong first, in this order: CAMXPT_E_UNIT; CAMXPT_E_ROUNDS; CAMXPT_E_REQUESTS; a CAMXPT_FAULT_*;
@@ -768,30 +537,9 @@ CAMXPT_NODISCARD static inline camxpt_code camxpt_carry(camxpt *from, camxpt *to
  *  1 <= arrival <= last <= rounds), _EARLY (it was started before it arrived), _LATE (after its last round), and _DEVICE_FULL,
  *  _ADAPTER_FULL and _LINK_FULL (beside the requests before it, more were started in its round than the cap). *wrong is set to
  *  the number of the first such cap or request, from 0 on, and isn't set otherwise. Or answers CAMXPT_E_MEMORY. */
-CAMXPT_NODISCARD static inline camxpt_code camxpt_recording(const camxpt_config *c, const camxpt_span *unit, uint32_t rounds,
-                                                            const camxpt_cap *caps, size_t cap_count,
-                                                            const camxpt_request *requests, size_t request_count,
-                                                            void *buffer, size_t room, size_t *needed, size_t *wrong)
-{
-    static const camxpt_weight no_weight = {0, 0};
-    static const uint32_t no_number = 0;
-    static const camxpt_adapter no_adapter = {0, 0};
-    static const camxpt_device no_device = {0, 0, 0, 0};
-    static const camxpt_span no_span = {0, 0};
-    static const camxpt_cap no_cap = {0, 0, 0, 0, 0};
-    static const camxpt_request no_request = {0, 0, 0, 0, 0, 0, 0};
-    uint8_t no_byte = 0;
-
-    if (!c || !needed || !wrong || (!c->weights && c->weight_count) || (!c->links && c->link_count) ||
-        (!c->adapters && c->adapter_count) || (!c->devices && c->device_count) || (!caps && cap_count) ||
-        (!requests && request_count) || (!buffer && room))
-        return CAMXPT_E_NULL;
-    return camxpt_raw_recording(c->weights ? c->weights : &no_weight, c->weight_count, c->links ? c->links : &no_number,
-                                c->link_count, c->adapters ? c->adapters : &no_adapter, c->adapter_count,
-                                c->devices ? c->devices : &no_device, c->device_count, unit ? unit : &no_span, rounds,
-                                caps ? caps : &no_cap, cap_count, requests ? requests : &no_request, request_count,
-                                buffer ? (uint8_t *)buffer : &no_byte, room, needed, wrong);
-}
+CAMXPT_NODISCARD camxpt_code camxpt_recording(const camxpt_config *c, const camxpt_span *unit, uint32_t rounds,
+                                              const camxpt_cap *caps, size_t cap_count, const camxpt_request *requests,
+                                              size_t request_count, void *buffer, size_t room, size_t *needed, size_t *wrong);
 
 #ifdef __cplusplus
 }

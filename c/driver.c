@@ -50,7 +50,7 @@ static void run_lane(camxpt *x, uint32_t lane)
     }
     if (!CAMXPT_IS_IDLE(code))
         want(code, "send_next");
-    printf("  idle: %s\n", camxpt_code_name(code));
+    printf("  %s\n", camxpt_code_name(code));
 }
 
 /* Decides on each command that failed, as its class asks. */

@@ -3,10 +3,11 @@
  * them against the sums that are worked out here by hand. */
 #include "camxpt.h"
 
+#include <pthread.h>
 #include <stdio.h>
 #include <stdlib.h>
 
-enum { NORMAL = 1152, EVENTS = 60000, ROUNDS = 512, OPENINGS = 8, MANY = 100000, MOST = 1048576, WIDE = 32 };
+enum { NORMAL = 1152, EVENTS = 60000, ROUNDS = 512, OPENINGS = 8, MANY = 100000, MOST = 1048576, WIDE = 32, STACK = 128 * 1024 };
 
 static const uint32_t adapters[] = {OPENINGS}, lanes[] = {0};
 static const camxpt_device disks[] = {{0, 0, 0, OPENINGS}, {0, 1, 0, OPENINGS}};
@@ -120,12 +121,26 @@ static void write_recording(const char *path, size_t count)
     free(requests);
 }
 
+static void *write_all(void *paths)
+{
+    char **const to = (char **)paths;
+
+    write_trace(to[0]);
+    write_recording(to[1], MANY);
+    write_recording(to[2], MOST);
+    return NULL;
+}
+
+/* All of it is done with the stack that the header asks for. */
 int main(int argc, char **argv)
 {
+    pthread_attr_t attributes;
+    pthread_t thread;
+
     if (argc != 4)
         return 2;
-    write_trace(argv[1]);
-    write_recording(argv[2], MANY);
-    write_recording(argv[3], MOST);
+    if (pthread_attr_init(&attributes) != 0 || pthread_attr_setstacksize(&attributes, STACK) != 0 ||
+        pthread_create(&thread, &attributes, write_all, argv + 1) != 0 || pthread_join(thread, NULL) != 0)
+        return EXIT_FAILURE;
     return EXIT_SUCCESS;
 }

@@ -1,6 +1,6 @@
 /* What each call answers to misuse: each code and each refusal is reached, what a refused call gives stays as it was, and each
  * request for memory is refused in turn. Link with --wrap for malloc, realloc and free. */
-#include "camxpt.h"
+#include "raw.h"
 
 #include <stdio.h>
 #include <stdlib.h>
@@ -211,8 +211,12 @@ static void faults(void)
     static const camxpt_adapter on_link[] = {{2, 1}, {2, CAMXPT_NO_LINK}}, on_none[] = {{2, CAMXPT_NO_LINK}};
     static const uint32_t links[] = {255}, nine[] = {1, 1, 1, 1, 1, 1, 1, 1, 1}, none[] = {0};
     static const camxpt_device far[] = {{0, 0, 16384, 1}}, twice[] = {{0, 3, 4, 1}, {0, 3, 4, 2}}, away[] = {{1, 0, 0, 1}};
+    /* No device after the 32nd is read: so many would lie beyond the stack. */
+    const size_t too_many = 100000000;
+    camxpt_device all[32];
     camxpt x = CAMXPT_INIT;
     camxpt_config c = {weights, 5, links, 1, on_link, 2, two_disks, 2, one_lane, 1};
+    size_t needed = 0, wrong = 0;
 
     DUE(camxpt_open(&x, NULL, 0, NULL, 0, NULL, 0, &most), CAMXPT_FAULT_NO_ADAPTERS);
     DUE(camxpt_open(&x, nine, 9, NULL, 0, NULL, 0, &most), CAMXPT_FAULT_TOO_MANY);
@@ -246,6 +250,18 @@ static void faults(void)
     c.link_count = 0;
     c.adapters = on_none;
     c.adapter_count = 1;
+    for (int k = 0; k < 32; k++)
+        all[k] = (camxpt_device){0, (uint16_t)k, 0, 1};
+    c.devices = all;
+    c.device_count = too_many;
+    DUE(camxpt_open(&x, one_adapter, 1, all, too_many, one_lane, 1, &most), CAMXPT_FAULT_TOO_MANY);
+    DUE(camxpt_open_with(&x, &c, &most), CAMXPT_FAULT_TOO_MANY);
+    DUE(camxpt_recording(&c, NULL, 1, NULL, 0, NULL, 0, NULL, 0, &needed, &wrong), CAMXPT_FAULT_TOO_MANY);
+    c.device_count = 32;
+    DUE(camxpt_open_with(&x, &c, &most), CAMXPT_OK);
+    DUE(camxpt_close(&x), CAMXPT_OK);
+    c.devices = two_disks;
+    c.device_count = 2;
     DUE(camxpt_open_with(&x, &c, &most), CAMXPT_OK);
     DUE(camxpt_open_with(&x, &c, &most), CAMXPT_E_OPEN);
     DUE(camxpt_raw_open_with(&x.raw_, weights, 5, links, 0, on_none, 1, two_disks, 2, one_lane, 1, &most), CAMXPT_E_OPEN);
@@ -607,6 +623,7 @@ static void wrong_recordings(void)
     size_t needed = 77, wrong = NO_NUMBER;
 
     WRONG(r.unit.unit = 4; r.rounds = 0, CAMXPT_E_UNIT, NO_NUMBER);
+    WRONG(r.unit.count = 0; r.unit.unit = 4, CAMXPT_E_UNIT, NO_NUMBER);
     WRONG(r.rounds = 0; r.caps[0].kind = 3, CAMXPT_E_ROUNDS, NO_NUMBER);
     WRONG(r.rounds = 65536, CAMXPT_E_ROUNDS, NO_NUMBER);
     WRONG(r.caps[0].kind = 3; r.caps[1].kind = 3; r.requests[0].device = 2, CAMXPT_E_CAP, 0);
@@ -744,6 +761,7 @@ static void memory(void)
 
 int main(void)
 {
+    HOLDS(strcmp(camxpt_version(), CAMXPT_VERSION) == 0);
     handles();
     closed();
     nulls();

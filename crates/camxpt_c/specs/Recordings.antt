@@ -1,5 +1,5 @@
 -- the recording of what C hands in, and what is wrong with it first
-use Rattle.std.specs.Prelude.{ℕ, ℤ, Bool, ◌≡◌, ◌⊎◌, ◌==◌, nat_lt, nat_le, not, ◌&&◌, ◌||◌, List, [], length, map, Option, Some, None, option_map, if◌then◌else◌, MatchOption}
+use Rattle.std.specs.Prelude.{ℕ, ℤ, Bool, ◌≡◌, ◌⊎◌, ◌==◌, nat_lt, nat_le, ◌&&◌, ◌||◌, List, [], length, map, Option, Some, None, option_map, if◌then◌else◌, MatchOption}
 use Rattle.std.specs.Option.{option_or}
 use Rattle.cam_types.specs.Lists.{prefixed, first_answer}
 use Rattle.cam_types.specs.Topology.{Topology, config_fault}
@@ -47,7 +47,7 @@ recorded_of h = record {
 -- what is wrong with the unit, the rounds or the number of requests
 unfoldable pub size_fault : CamxptSpan → ℕ → ℕ → Option RecordFault
 size_fault span rounds requests =
-    if not (span.count == 0) && nat_lt SECONDS span.unit then Some (Call E_UNIT)
+    if nat_lt SECONDS span.unit then Some (Call E_UNIT)
     else if (rounds == 0) || nat_lt MAX_RECORDED_ROUNDS rounds then Some (Call E_ROUNDS)
     else if nat_lt MAX_REQUESTS requests then Some (Call E_REQUESTS)
     else None

@@ -28,7 +28,7 @@ pub const NO_LAST: u32 = 0;
 /// Stands for the round of a request's completion where that isn't known.
 pub const NO_DONE: u32 = 0;
 
-/// How long a round is: that many of a unit of time. If the count is 0, it isn't known.
+/// How long a round is: that many of a unit of time. If the count is 0, it isn't known, and the unit has to be one all the same.
 #[repr(C)]
 #[derive(Clone, Copy)]
 pub struct CamxptSpan {

@@ -110,7 +110,7 @@ fn check_sizes(span: CamxptSpan, rounds: u32, requests: usize) -> Result<(), Rec
     ensures many { OnOk result (requests ≤ MAX_REQUESTS) }
     ensures err { IfErr result (λ e. size_fault span rounds requests ≡ Some e) }
 {
-    if span.count != 0 && span.unit > SECONDS {
+    if span.unit > SECONDS {
         return Err(RecordFault::Call(E_UNIT));
     }
     if rounds == 0 || rounds > MAX_RECORDED_ROUNDS {

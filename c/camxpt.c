@@ -1,0 +1,305 @@
+/* The functions of camxpt.h. Each tests its pointers and whether its handle is open, and then calls the proved function of its name. */
+#include "raw.h"
+
+#include <string.h>
+
+const char *camxpt_version(void)
+{
+    return CAMXPT_VERSION;
+}
+
+const char *camxpt_code_name(camxpt_code code)
+{
+    switch (code) {
+    case CAMXPT_OK: return "Ok";
+    case CAMXPT_E_CLOSED: return "Closed";
+    case CAMXPT_E_OPEN: return "Open";
+    case CAMXPT_E_MEMORY: return "OutOfMemory";
+    case CAMXPT_E_LIMIT: return "BadLimit";
+    case CAMXPT_E_SPACE: return "NoSpace";
+    case CAMXPT_E_NULL: return "Null";
+    case CAMXPT_E_COPIED: return "Copied";
+    case CAMXPT_E_KIND: return "BadKind";
+    case CAMXPT_E_UNIT: return "BadUnit";
+    case CAMXPT_E_ROUNDS: return "BadRounds";
+    case CAMXPT_E_REQUESTS: return "TooManyRequests";
+    case CAMXPT_E_CAP: return "BadCap";
+    case CAMXPT_E_DONE: return "BadDone";
+    case CAMXPT_HISTORY_FULL: return "HistoryFull";
+    case CAMXPT_NO_DEVICE: return "NoDevice";
+    case CAMXPT_NO_ADAPTER: return "NoAdapter";
+    case CAMXPT_NO_LANE: return "NoLane";
+    case CAMXPT_NO_CCB: return "NoCcb";
+    case CAMXPT_BAD_PRIORITY: return "BadPriority";
+    case CAMXPT_BAD_RETRIES: return "BadRetries";
+    case CAMXPT_BAD_COUNT: return "BadCount";
+    case CAMXPT_BAD_OPENINGS: return "BadOpenings";
+    case CAMXPT_BAD_STATUS: return "BadStatus";
+    case CAMXPT_CCB_FULL: return "CcbFull";
+    case CAMXPT_STAYS_FULL: return "StaysFull";
+    case CAMXPT_NOT_QUEUED: return "NotQueued";
+    case CAMXPT_WRONG_LANE: return "WrongLane";
+    case CAMXPT_DEVICE_FROZEN: return "DeviceFrozen";
+    case CAMXPT_ADAPTER_FROZEN: return "AdapterFrozen";
+    case CAMXPT_NO_OPENING: return "NoOpening";
+    case CAMXPT_NOT_HEAD: return "NotHead";
+    case CAMXPT_NOT_IN_FLIGHT: return "NotInFlight";
+    case CAMXPT_NOT_RECOVERING: return "NotRecovering";
+    case CAMXPT_WRONG_DECISION: return "WrongDecision";
+    case CAMXPT_FREEZE_OVERFLOW: return "FreezeOverflow";
+    case CAMXPT_RELEASE_TOO_MANY: return "ReleaseTooMany";
+    case CAMXPT_IN_FLIGHT: return "InFlight";
+    case CAMXPT_ROUNDS_FULL: return "RoundsFull";
+    case CAMXPT_IDLE_EMPTY: return "IdleEmpty";
+    case CAMXPT_IDLE_ADAPTER_FROZEN: return "IdleAdapterFrozen";
+    case CAMXPT_IDLE_ADAPTER_BUSY: return "IdleAdapterBusy";
+    case CAMXPT_IDLE_DEVICES_HELD: return "IdleDevicesHeld";
+    case CAMXPT_NONE: return "None";
+    case CAMXPT_UNDECIDED: return "Undecided";
+    case CAMXPT_FAULT_NO_ADAPTERS: return "FaultNoAdapters";
+    case CAMXPT_FAULT_TOO_MANY: return "FaultTooMany";
+    case CAMXPT_FAULT_BAD_OPENINGS: return "FaultBadOpenings";
+    case CAMXPT_FAULT_NO_ADAPTER: return "FaultNoAdapter";
+    case CAMXPT_FAULT_BAD_ADDRESS: return "FaultBadAddress";
+    case CAMXPT_FAULT_DOUBLE_DEVICE: return "FaultDoubleDevice";
+    case CAMXPT_FAULT_BAD_WEIGHT: return "FaultBadWeight";
+    case CAMXPT_FAULT_NO_LINK: return "FaultNoLink";
+    case CAMXPT_CAUSE_NO_DEVICE: return "CauseNoDevice";
+    case CAMXPT_CAUSE_BAD_PRIORITY: return "CauseBadPriority";
+    case CAMXPT_CAUSE_BAD_WINDOW: return "CauseBadWindow";
+    case CAMXPT_CAUSE_EARLY: return "CauseEarly";
+    case CAMXPT_CAUSE_LATE: return "CauseLate";
+    case CAMXPT_CAUSE_DEVICE_FULL: return "CauseDeviceFull";
+    case CAMXPT_CAUSE_ADAPTER_FULL: return "CauseAdapterFull";
+    case CAMXPT_CAUSE_LINK_FULL: return "CauseLinkFull";
+    default: return "Unknown";
+    }
+}
+
+/* What is wrong with a handle that has to be open. */
+static camxpt_code bad_handle(const camxpt *x)
+{
+    if (!x)
+        return CAMXPT_E_NULL;
+    if (x->self_ == x)
+        return CAMXPT_OK;
+    return x->self_ ? CAMXPT_E_COPIED : CAMXPT_E_CLOSED;
+}
+
+/* How many devices a configuration has at most. */
+enum { MOST_DEVICES = 32 };
+
+/* The devices that may be read: one too many is refused as any other number of them is, so none after the 32nd is looked at. */
+struct devices {
+    camxpt_device list[MOST_DEVICES + 1];
+    size_t count;
+};
+
+static struct devices first_devices(const camxpt_device *devices, size_t count)
+{
+    struct devices first;
+
+    memset(&first, 0, sizeof first);
+    if (count > 0)
+        memcpy(first.list, devices, (count < MOST_DEVICES ? count : MOST_DEVICES) * sizeof *devices);
+    first.count = count > MOST_DEVICES ? MOST_DEVICES + 1 : count;
+    return first;
+}
+
+#define CALL(x, pointers, call) (bad_handle(x) != CAMXPT_OK ? bad_handle(x) : (pointers) ? (call) : (camxpt_code)CAMXPT_E_NULL)
+
+camxpt_code camxpt_open(camxpt *x, const uint32_t *adapters, size_t adapter_count, const camxpt_device *devices,
+                        size_t device_count, const uint32_t *lanes, size_t lane_count, const camxpt_limits *limits)
+{
+    static const uint32_t no_number = 0;
+    struct devices first;
+    camxpt_code code;
+
+    if (!x || !limits || (!adapters && adapter_count) || (!devices && device_count) || (!lanes && lane_count))
+        return CAMXPT_E_NULL;
+    if (x->self_)
+        return x->self_ == x ? CAMXPT_E_OPEN : CAMXPT_E_COPIED;
+    first = first_devices(devices, device_count);
+    code = camxpt_raw_open(&x->raw_, adapters ? adapters : &no_number, adapter_count, first.list, first.count,
+                           lanes ? lanes : &no_number, lane_count, limits);
+    if (code == CAMXPT_OK)
+        x->self_ = x;
+    return code;
+}
+
+camxpt_code camxpt_open_with(camxpt *x, const camxpt_config *c, const camxpt_limits *limits)
+{
+    static const camxpt_weight no_weight = {0, 0};
+    static const uint32_t no_number = 0;
+    static const camxpt_adapter no_adapter = {0, 0};
+    struct devices first;
+    camxpt_code code;
+
+    if (!x || !c || !limits || (!c->weights && c->weight_count) || (!c->links && c->link_count) ||
+        (!c->adapters && c->adapter_count) || (!c->devices && c->device_count) || (!c->lanes && c->lane_count))
+        return CAMXPT_E_NULL;
+    if (x->self_)
+        return x->self_ == x ? CAMXPT_E_OPEN : CAMXPT_E_COPIED;
+    first = first_devices(c->devices, c->device_count);
+    code = camxpt_raw_open_with(&x->raw_, c->weights ? c->weights : &no_weight, c->weight_count,
+                                c->links ? c->links : &no_number, c->link_count, c->adapters ? c->adapters : &no_adapter,
+                                c->adapter_count, first.list, first.count, c->lanes ? c->lanes : &no_number, c->lane_count,
+                                limits);
+    if (code == CAMXPT_OK)
+        x->self_ = x;
+    return code;
+}
+
+camxpt_code camxpt_close(camxpt *x)
+{
+    const camxpt_code bad = bad_handle(x);
+
+    if (bad != CAMXPT_OK)
+        return bad;
+    x->self_ = NULL;
+    return camxpt_raw_close(&x->raw_);
+}
+
+camxpt_code camxpt_submit(camxpt *x, uint8_t driver, uint32_t device, uint32_t priority, uint32_t retries, bool qfreeze,
+                          bool qfrzdis, uint32_t *ccb)
+{
+    return CALL(x, ccb, camxpt_raw_submit(&x->raw_, driver, device, priority, retries, qfreeze, qfrzdis, ccb));
+}
+
+camxpt_code camxpt_send_next(camxpt *x, uint32_t lane, camxpt_command *command)
+{
+    return CALL(x, command, camxpt_raw_send_next(&x->raw_, lane, command));
+}
+
+camxpt_code camxpt_done(camxpt *x, uint32_t ccb, uint8_t status, uint8_t scsi, const uint8_t *sense, size_t sense_len,
+                        camxpt_completion *done)
+{
+    static const uint8_t no_byte = 0;
+
+    return CALL(x, done && (sense || !sense_len),
+                camxpt_raw_done(&x->raw_, ccb, status, scsi, sense ? sense : &no_byte, sense_len, done));
+}
+
+camxpt_code camxpt_requeue(camxpt *x, uint32_t ccb)
+{
+    return CALL(x, true, camxpt_raw_requeue(&x->raw_, ccb));
+}
+
+camxpt_code camxpt_finish(camxpt *x, uint32_t ccb)
+{
+    return CALL(x, true, camxpt_raw_finish(&x->raw_, ccb));
+}
+
+camxpt_code camxpt_freeze_dev(camxpt *x, uint32_t device, uint32_t count)
+{
+    return CALL(x, true, camxpt_raw_freeze_dev(&x->raw_, device, count));
+}
+
+camxpt_code camxpt_release_dev(camxpt *x, uint32_t device, uint32_t count)
+{
+    return CALL(x, true, camxpt_raw_release_dev(&x->raw_, device, count));
+}
+
+camxpt_code camxpt_freeze_sim(camxpt *x, uint32_t sim, uint32_t count)
+{
+    return CALL(x, true, camxpt_raw_freeze_sim(&x->raw_, sim, count));
+}
+
+camxpt_code camxpt_release_sim(camxpt *x, uint32_t sim)
+{
+    return CALL(x, true, camxpt_raw_release_sim(&x->raw_, sim));
+}
+
+camxpt_code camxpt_adjust(camxpt *x, uint32_t device, uint32_t openings)
+{
+    return CALL(x, true, camxpt_raw_adjust(&x->raw_, device, openings));
+}
+
+camxpt_code camxpt_tick(camxpt *x, uint32_t *round)
+{
+    return CALL(x, round, camxpt_raw_tick(&x->raw_, round));
+}
+
+camxpt_code camxpt_has_head(camxpt *x, uint32_t lane)
+{
+    return CALL(x, true, camxpt_raw_has_head(&x->raw_, lane));
+}
+
+camxpt_code camxpt_next_case(camxpt *x, camxpt_case *found)
+{
+    return CALL(x, found, camxpt_raw_next_case(&x->raw_, found));
+}
+
+camxpt_code camxpt_look(camxpt *x, camxpt_counts *counts)
+{
+    return CALL(x, counts, camxpt_raw_look(&x->raw_, counts));
+}
+
+camxpt_code camxpt_take(camxpt *x, const camxpt_event *event)
+{
+    return CALL(x, event, camxpt_raw_take(&x->raw_, event));
+}
+
+camxpt_code camxpt_refusal(camxpt *x, const camxpt_event *event)
+{
+    return CALL(x, event, camxpt_raw_refusal(&x->raw_, event));
+}
+
+camxpt_code camxpt_events(camxpt *x, uint32_t first, camxpt_event *events, size_t room, size_t *copied)
+{
+    camxpt_event no_event;
+
+    no_event.kind = 0;
+    return CALL(x, copied && (events || !room),
+                camxpt_raw_events(&x->raw_, first, events ? events : &no_event, room, copied));
+}
+
+camxpt_code camxpt_trace(camxpt *x, void *buffer, size_t room, size_t *needed)
+{
+    uint8_t no_byte = 0;
+
+    return CALL(x, needed && (buffer || !room),
+                camxpt_raw_trace(&x->raw_, buffer ? (uint8_t *)buffer : &no_byte, room, needed));
+}
+
+camxpt_code camxpt_carry(camxpt *from, camxpt *to, const camxpt_limits *limits, uint32_t *numbers, size_t room, size_t *count)
+{
+    uint32_t no_number = 0;
+    camxpt_code code = bad_handle(from);
+
+    if (code != CAMXPT_OK)
+        return code;
+    if (!to || !limits || !count || (!numbers && room))
+        return CAMXPT_E_NULL;
+    if (to->self_)
+        return to->self_ == to ? CAMXPT_E_OPEN : CAMXPT_E_COPIED;
+    code = camxpt_raw_carry(&from->raw_, &to->raw_, limits, numbers ? numbers : &no_number, room, count);
+    if (code == CAMXPT_OK)
+        to->self_ = to;
+    return code;
+}
+
+camxpt_code camxpt_recording(const camxpt_config *c, const camxpt_span *unit, uint32_t rounds, const camxpt_cap *caps,
+                             size_t cap_count, const camxpt_request *requests, size_t request_count, void *buffer, size_t room,
+                             size_t *needed, size_t *wrong)
+{
+    static const camxpt_weight no_weight = {0, 0};
+    static const uint32_t no_number = 0;
+    static const camxpt_adapter no_adapter = {0, 0};
+    static const camxpt_span no_span = {0, 0};
+    static const camxpt_cap no_cap = {0, 0, 0, 0, 0};
+    static const camxpt_request no_request = {0, 0, 0, 0, 0, 0, 0};
+    struct devices first;
+    uint8_t no_byte = 0;
+
+    if (!c || !needed || !wrong || (!c->weights && c->weight_count) || (!c->links && c->link_count) ||
+        (!c->adapters && c->adapter_count) || (!c->devices && c->device_count) || (!caps && cap_count) ||
+        (!requests && request_count) || (!buffer && room))
+        return CAMXPT_E_NULL;
+    first = first_devices(c->devices, c->device_count);
+    return camxpt_raw_recording(c->weights ? c->weights : &no_weight, c->weight_count, c->links ? c->links : &no_number,
+                                c->link_count, c->adapters ? c->adapters : &no_adapter, c->adapter_count, first.list,
+                                first.count, unit ? unit : &no_span, rounds, caps ? caps : &no_cap, cap_count,
+                                requests ? requests : &no_request, request_count, buffer ? (uint8_t *)buffer : &no_byte, room,
+                                needed, wrong);
+}

@@ -1,0 +1,49 @@
+/* The symbols of the library's proved part (crates/camxpt_c). No pointer that they are given may be null: camxpt.c tests that. */
+#ifndef CAMXPT_RAW_H
+#define CAMXPT_RAW_H
+
+#include "camxpt.h"
+
+#ifdef __cplusplus
+extern "C" {
+#endif
+
+camxpt_code camxpt_raw_open(camxpt_raw *x, const uint32_t *adapters, size_t adapter_count, const camxpt_device *devices,
+                            size_t device_count, const uint32_t *lanes, size_t lane_count, const camxpt_limits *limits);
+camxpt_code camxpt_raw_open_with(camxpt_raw *x, const camxpt_weight *weights, size_t weight_count, const uint32_t *links,
+                                 size_t link_count, const camxpt_adapter *adapters, size_t adapter_count,
+                                 const camxpt_device *devices, size_t device_count, const uint32_t *lanes, size_t lane_count,
+                                 const camxpt_limits *limits);
+camxpt_code camxpt_raw_close(camxpt_raw *x);
+camxpt_code camxpt_raw_submit(camxpt_raw *x, uint8_t driver, uint32_t device, uint32_t priority, uint32_t retries, bool qfreeze,
+                              bool qfrzdis, uint32_t *ccb);
+camxpt_code camxpt_raw_send_next(camxpt_raw *x, uint32_t lane, camxpt_command *command);
+camxpt_code camxpt_raw_done(camxpt_raw *x, uint32_t ccb, uint8_t status, uint8_t scsi, const uint8_t *sense, size_t sense_len,
+                            camxpt_completion *done);
+camxpt_code camxpt_raw_requeue(camxpt_raw *x, uint32_t ccb);
+camxpt_code camxpt_raw_finish(camxpt_raw *x, uint32_t ccb);
+camxpt_code camxpt_raw_freeze_dev(camxpt_raw *x, uint32_t device, uint32_t count);
+camxpt_code camxpt_raw_release_dev(camxpt_raw *x, uint32_t device, uint32_t count);
+camxpt_code camxpt_raw_freeze_sim(camxpt_raw *x, uint32_t sim, uint32_t count);
+camxpt_code camxpt_raw_release_sim(camxpt_raw *x, uint32_t sim);
+camxpt_code camxpt_raw_adjust(camxpt_raw *x, uint32_t device, uint32_t openings);
+camxpt_code camxpt_raw_tick(camxpt_raw *x, uint32_t *round);
+camxpt_code camxpt_raw_has_head(camxpt_raw *x, uint32_t lane);
+camxpt_code camxpt_raw_next_case(camxpt_raw *x, camxpt_case *found);
+camxpt_code camxpt_raw_look(camxpt_raw *x, camxpt_counts *counts);
+camxpt_code camxpt_raw_take(camxpt_raw *x, const camxpt_event *event);
+camxpt_code camxpt_raw_refusal(camxpt_raw *x, const camxpt_event *event);
+camxpt_code camxpt_raw_events(camxpt_raw *x, uint32_t first, camxpt_event *events, size_t room, size_t *copied);
+camxpt_code camxpt_raw_trace(camxpt_raw *x, uint8_t *buffer, size_t room, size_t *needed);
+camxpt_code camxpt_raw_carry(camxpt_raw *from, camxpt_raw *to, const camxpt_limits *limits, uint32_t *numbers, size_t room,
+                             size_t *count);
+camxpt_code camxpt_raw_recording(const camxpt_weight *weights, size_t weight_count, const uint32_t *links, size_t link_count,
+                                 const camxpt_adapter *adapters, size_t adapter_count, const camxpt_device *devices,
+                                 size_t device_count, const camxpt_span *unit, uint32_t rounds, const camxpt_cap *caps,
+                                 size_t cap_count, const camxpt_request *requests, size_t request_count, uint8_t *buffer,
+                                 size_t room, size_t *needed, size_t *wrong);
+
+#ifdef __cplusplus
+}
+#endif
+#endif

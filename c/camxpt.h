@@ -17,7 +17,7 @@
  *   - No call comes from a signal handler, or in the child of a fork of a process with threads. Memory is this program's
  *     malloc, realloc and free. Only camxpt_open, camxpt_open_with, camxpt_carry, camxpt_trace and camxpt_recording ask for
  *     any. A longjmp out of malloc loses the handle: it answers CAMXPT_E_CLOSED then, and its memory isn't freed.
- *   - camxpt_trace and camxpt_recording take up to 128 kB of the stack. The other calls take less.
+ *   - The stack has 128 kB or more where camxpt_trace and camxpt_recording are called.
  *
  * A transport takes 65,535 events, 512 rounds and 4,096 stays at most (a stay is one passage of a CCB through its queue, so a
  * submit or a requeue begins one). A driver that runs longer carries what waits over to a fresh transport by camxpt_carry, at

@@ -37,11 +37,15 @@ mod long_captures;
 #[cfg(test)]
 mod meeting;
 #[cfg(test)]
+mod noted_requests;
+#[cfg(test)]
 mod own_reports;
 #[cfg(test)]
 mod plan_progress;
 #[cfg(test)]
 mod recorded;
+#[cfg(test)]
+mod recorder_windows;
 #[cfg(test)]
 mod recordings;
 #[cfg(test)]

@@ -1,44 +1,40 @@
 //! The requests of a window, numbered anew.
 
-use crate::line_fault::LineFault;
-use crate::options::Options;
+use crate::cut_fault::CutFault;
+use crate::names::{Names, name_at};
 use capture::TimedRequest;
 use std::alloc::{AllocError, Global};
 
 // The most devices that a recording has.
 const MAX_DEVICES: usize = 32;
 
-/// The requests of a window. Their devices and drivers are places in the two lists, in which each stands where its first request is.
-#[derive(Debug, Drop)]
-pub struct WindowParts {
-    /// The requests, in the order given.
+// The requests of a window. Their devices and drivers are places in the two lists, in which each stands where its first request is.
+#[derive(Drop)]
+pub(crate) struct WindowParts {
+    // In the order given.
     pub requests: Vec<TimedRequest>,
-    /// The names of the devices.
+    // The names of the devices.
     pub devices: Vec<String>,
-    /// The places of the devices among all that the reader has.
+    // The places of the devices among all that have names.
     pub places: Vec<u32>,
-    /// The names of the drivers.
+    // The names of the drivers.
     pub drivers: Vec<String>,
 }
 
 impl WindowParts {
-    /// Those of these requests, whose devices and drivers are places in the reader's lists. Of those that wait when the window ends, each
-    /// as if it were started then, the first one of each device that has requests is added: it shows that the device was waited for.
-    ///
-    /// # Errors
-    ///
-    /// `TooManyDevices` if more than 32 devices have requests, `OutOfMemory` if no memory is left.
-    pub fn of(
+    // Those of these requests, whose devices and drivers are places in the lists of names. One that was put back at the end of what is
+    // taken, or after it, has no later attempt. Of those that wait when the window ends, each as if it were started then, the first one
+    // of each device that has requests is added: it shows that the device was waited for.
+    pub(crate) fn of(
         alloc: Global,
-        options: &Options,
-        devices: &[Vec<u8>],
-        drivers: &[Vec<u8>],
+        names: Names<'_>,
+        end: Option<u64>,
         requests: &[TimedRequest],
         waiting: &[TimedRequest],
-        end: u64,
-    ) -> Result<WindowParts, LineFault> {
-        let mut by_device = vec![in alloc; None; devices.len()]?;
-        let mut by_driver = vec![in alloc; None; drivers.len()]?;
+        until: u64,
+    ) -> Result<WindowParts, CutFault> {
+        let mut by_device = vec![in alloc; None; names.devices.len()]?;
+        let mut by_driver = vec![in alloc; None; names.drivers.len()]?;
         let mut parts = WindowParts {
             requests: Vec::with_capacity(alloc, requests.len())?,
             devices: Vec::new(alloc),
@@ -52,9 +48,9 @@ impl WindowParts {
                 None => {
                     let number = parts.places.len();
                     if number >= MAX_DEVICES {
-                        return Err(LineFault::TooManyDevices(number.saturating_add(1)));
+                        return Err(CutFault::TooManyDevices(number.saturating_add(1)));
                     }
-                    parts.devices.push(name_at(alloc, devices, place)?)?;
+                    parts.devices.push(name_at(alloc, names.devices, place)?)?;
                     parts.places.push(request.device)?;
                     let number = number as u32;
                     if let Some(known) = by_device.get_mut(place) {
@@ -67,7 +63,7 @@ impl WindowParts {
                 Some(number) => number,
                 None => {
                     let number = u8::try_from(parts.drivers.len()).unwrap_or(u8::MAX);
-                    parts.drivers.push(name_at(alloc, drivers, driver)?)?;
+                    parts.drivers.push(name_at(alloc, names.drivers, driver)?)?;
                     if let Some(known) = by_driver.get_mut(driver) {
                         *known = Some(number);
                     }
@@ -77,11 +73,13 @@ impl WindowParts {
             parts.requests.push(TimedRequest {
                 device,
                 driver,
-                retried: request.retried.filter(|time| options.is_before_end(*time)),
+                retried: request
+                    .retried
+                    .filter(|time| end.is_none_or(|end| *time < end)),
                 ..*request
             })?;
         }
-        parts.add_waiting(alloc, &by_device, waiting, end)?;
+        parts.add_waiting(alloc, &by_device, waiting, until)?;
         Ok(parts)
     }
 
@@ -90,7 +88,7 @@ impl WindowParts {
         alloc: Global,
         by_device: &[Option<u32>],
         waiting: &[TimedRequest],
-        end: u64,
+        until: u64,
     ) -> Result<(), AllocError> {
         let mut first: Vec<Option<TimedRequest>> = vec![in alloc; None; self.places.len()]?;
         for request in waiting {
@@ -101,7 +99,7 @@ impl WindowParts {
                 *first = Some(TimedRequest {
                     device: *device,
                     driver: 0,
-                    started: Some(end),
+                    started: Some(until),
                     ..*request
                 });
             }
@@ -113,11 +111,4 @@ impl WindowParts {
         }
         Ok(())
     }
-}
-
-fn name_at(alloc: Global, names: &[Vec<u8>], place: usize) -> Result<String, AllocError> {
-    let name = names
-        .get(place)
-        .map_or(b"".as_slice(), |name| name.as_slice());
-    String::from_utf8_lossy(alloc, name)
 }

@@ -1,0 +1,4 @@
+pub mod IndexLemmas
+pub mod KeepLemmas
+pub mod NoteLemmas
+pub mod WindowLemmas

@@ -1,0 +1,5 @@
+pub mod Notes
+pub mod Faults
+pub mod Ids
+pub mod Places
+pub mod Windows

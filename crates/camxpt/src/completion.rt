@@ -1,7 +1,7 @@
 //! The scripts by which shells complete the program's words. Names and options are those of the table of subcommands.
 
 use crate::shell::{SHELLS, Shell};
-use crate::subcommands::{Subcommand, VERBOSE, makers, views};
+use crate::subcommands::{Subcommand, VERBOSE, subcommands};
 use crate::word::NamedArgument;
 use std::alloc::{AllocError, Global};
 
@@ -75,39 +75,26 @@ pub(crate) fn script(alloc: Global, shell: Shell) -> Result<String, AllocError> 
 
 // Puts the names of the subcommands after the script, each with a space after it.
 fn push_names(script: &mut String) -> Result<(), AllocError> {
-    push_names_of(script, views())?;
-    push_names_of(script, makers())?;
-    script.push_str("help ")
-}
-
-fn push_names_of(script: &mut String, subcommands: &[Subcommand]) -> Result<(), AllocError> {
-    for subcommand in subcommands {
-        write!(script, "{} ", subcommand.name)?;
+    for group in subcommands() {
+        for subcommand in group {
+            write!(script, "{} ", subcommand.name)?;
+        }
     }
-    Ok(())
+    script.push_str("help ")
 }
 
 fn push_cases(alloc: Global, script: &mut String, shell: &Cases) -> Result<(), AllocError> {
     script.push_str(shell.head)?;
     push_names(script)?;
     script.push_str(shell.middle)?;
-    push_cases_of(alloc, script, shell, views())?;
-    push_cases_of(alloc, script, shell, makers())?;
+    for group in subcommands() {
+        for subcommand in group {
+            push_case(alloc, script, shell, subcommand)?;
+        }
+    }
     write!(script, "            help) {}", shell.open)?;
     push_names(script)?;
     write!(script, "{}{}", shell.alone, shell.tail)
-}
-
-fn push_cases_of(
-    alloc: Global,
-    script: &mut String,
-    shell: &Cases,
-    subcommands: &[Subcommand],
-) -> Result<(), AllocError> {
-    for subcommand in subcommands {
-        push_case(alloc, script, shell, subcommand)?;
-    }
-    Ok(())
 }
 
 // Puts the case of a subcommand after the script. Files complete the arguments of each that takes no shell's name.
@@ -140,8 +127,11 @@ fn push_fish(alloc: Global, script: &mut String) -> Result<(), AllocError> {
     script.push_str(FISH_HEAD)?;
     push_names(script)?;
     script.push_str(FISH_MIDDLE)?;
-    push_fish_lines(alloc, script, views())?;
-    push_fish_lines(alloc, script, makers())?;
+    for group in subcommands() {
+        for subcommand in group {
+            push_fish_lines(alloc, script, subcommand)?;
+        }
+    }
     write!(script, "{FISH_WORD}help\" -f -a \"")?;
     push_names(script)?;
     script.push_str("\"\n")
@@ -150,15 +140,12 @@ fn push_fish(alloc: Global, script: &mut String) -> Result<(), AllocError> {
 fn push_fish_lines(
     alloc: Global,
     script: &mut String,
-    subcommands: &[Subcommand],
+    subcommand: &Subcommand,
 ) -> Result<(), AllocError> {
-    for subcommand in subcommands {
-        for word in subcommand.words {
-            push_fish_line(alloc, script, subcommand.name, *word)?;
-        }
-        push_fish_line(alloc, script, subcommand.name, VERBOSE)?;
+    for word in subcommand.words {
+        push_fish_line(alloc, script, subcommand.name, *word)?;
     }
-    Ok(())
+    push_fish_line(alloc, script, subcommand.name, VERBOSE)
 }
 
 // Puts the line of fish on an argument of the subcommand of this name after the script, unless files complete it.

@@ -2,7 +2,6 @@
 
 use crate::import_span::{Seconds, Typed};
 use crate::word_fault::WordFault;
-use cam_types::ConfigError;
 use capture::{CaptureFault, short_within, span_nanoseconds};
 use capture_file::{LineFault, ReadFault};
 use capture_windows::WindowFault;
@@ -10,6 +9,7 @@ use recording_file::Span;
 use std::alloc::AllocError;
 use std::{fmt, io};
 use thiserror::Error;
+use window_recordings::CutFault;
 
 /// An option that names a file or a folder to write to.
 #[derive(Clone, Copy, Debug, PartialEq, Eq)]
@@ -73,7 +73,7 @@ pub enum ImportFault {
     CannotWrite(FileOption, io::Error),
     /// More adapters than there may be.
     #[error("9 adapters, and a recording has at most 8: devices without --host share one after the last that is given")]
-    Config,
+    TooManyAdapters,
     /// A write failed, and the system's reason.
     #[error("write failed")]
     WriteFailed(Option<io::Error>),
@@ -165,11 +165,17 @@ fn too_many_rounds<W: fmt::Write>(
     )
 }
 
-impl From<ConfigError> for ImportFault {
-    fn from(error: ConfigError) -> ImportFault {
-        match error {
-            ConfigError::OutOfMemory => ImportFault::OutOfMemory(AllocError),
-            ConfigError::Fault(_) => ImportFault::Config,
+impl From<CutFault> for ImportFault {
+    fn from(fault: CutFault) -> ImportFault {
+        match fault {
+            CutFault::Capture(fault) => ImportFault::Capture(fault),
+            CutFault::TooManyAdapters => ImportFault::TooManyAdapters,
+            CutFault::Window(fault) => ImportFault::Window(fault),
+            CutFault::TooFewSlots(place, most) => ImportFault::TooFewSlots(place, most),
+            CutFault::TooManyDevices(count) => ImportFault::Files(LineFault::TooManyDevices(count)),
+            CutFault::TooManyOpen(count) => ImportFault::TooManyOpen(count),
+            CutFault::NoRound(longest) => ImportFault::NoRound(longest),
+            CutFault::OutOfMemory => ImportFault::OutOfMemory(AllocError),
         }
     }
 }

@@ -2,13 +2,14 @@
 
 use crate::import_fault::ImportFault;
 use crate::import_words::{
-    DEPTH, DRIVER, Host, Kind, RATED, check_files, driver_by, hosts_of, is_sorted, kind_of,
-    numbers_of, picks_of, priorities_of, round_of, time_of,
+    DEPTH, DRIVER, Kind, RATED, check_files, driver_by, hosts_of, is_sorted, kind_of, numbers_of,
+    picks_of, priorities_of, round_of, time_of,
 };
 use capture_file::Options;
 use clap::ArgMatches;
 use recording_file::Span;
 use std::alloc::Global;
+use window_recordings::Layout;
 
 /// What the words of `import` ask for.
 #[derive(Drop)]
@@ -19,12 +20,8 @@ pub struct ImportOptions {
     pub round: Option<Span>,
     /// Which requests are taken, and with which priorities.
     pub taken: Options,
-    /// The adapters of devices, by the devices' names.
-    pub hosts: Vec<(String, Host)>,
-    /// What devices are rated at, by their names.
-    pub ratings: Vec<(String, u32)>,
-    /// The slots of devices, by their names.
-    pub depths: Vec<(String, u32)>,
+    /// What is given of devices.
+    pub layout: Layout,
 }
 
 impl ImportOptions {
@@ -48,9 +45,11 @@ impl ImportOptions {
                 to_time: time_of(words, "to-time")?,
                 is_sorted: is_sorted(words),
             },
-            hosts: hosts_of(alloc, words)?,
-            ratings: numbers_of(alloc, words, &RATED)?,
-            depths: numbers_of(alloc, words, &DEPTH)?,
+            layout: Layout {
+                hosts: hosts_of(alloc, words)?,
+                ratings: numbers_of(alloc, words, &RATED)?,
+                depths: numbers_of(alloc, words, &DEPTH)?,
+            },
         })
     }
 }

@@ -4,14 +4,13 @@ ghost use Rattle.std.specs.Prelude.{◌≡◌, IfOk};
 ghost use Rattle.capture.specs.Rounds.{in_rounds};
 
 use crate::import_fault::ImportFault;
-use crate::import_layout::{adapters_of, config_of, devices_of, names_of};
 use crate::import_note::note_on;
 use crate::import_options::ImportOptions;
 use crate::import_warnings::{
     SeenSlots, tell_counts, tell_early, tell_refused, tell_rooms, warn_columns, warn_missing,
     warn_read, warn_recorded,
 };
-use crate::import_words::{Kind, tolerance_of, value_of, window_of};
+use crate::import_words::{Kind, tolerance_of, window_of};
 use crate::note::{tell_note, tell_of};
 use crate::output::standard_output;
 use crate::source::{STANDARD_INPUT, is_verbose};
@@ -29,12 +28,13 @@ use capture_file::{
 };
 use clap::ArgMatches;
 use either::{Left, Right};
-use recording_file::{Recording, Span, WriteFault, write_recording};
+use recording_file::{Span, WriteFault, write_recording};
 use slots::SlotsFault;
 use std::alloc::{AllocError, Global};
 use std::fs::File;
 use std::process::ExitCode;
 use std::rt::Runtime;
+use window_recordings::value_of;
 
 /// Reads the files that the words name and prints their recording. Says on standard error what a round is, what was counted, and
 /// what to beware of; or why there is none, and what helps to find that if it is asked for.
@@ -94,7 +94,13 @@ fn imported<R: Runtime + AllocGlobal>(
     let round = round_for(rt.alloc(), options.round, &read)?;
     let capture = capture_of(rt.alloc(), round, &read)?;
     let rooms = rooms_of(rt.alloc(), &options, &capture, &read)?;
-    let recording = recording_of(rt.alloc(), &options, &capture, &rooms.spare, &read)?;
+    let recording = options.layout.recording(
+        rt.alloc(),
+        &capture,
+        &rooms.spare,
+        &read.devices,
+        &read.drivers,
+    )?;
     tell_counts(rt, round, &recording, &read.counts);
     tell_refused(rt, words, refused);
     tell_early(rt, &read.counts);
@@ -316,10 +322,11 @@ fn rooms_of(
     let mut number = 0u32;
     for name in &read.devices {
         let place = options
+            .layout
             .depths
             .iter()
             .position(|depth| depth.0.as_str() == name.as_str());
-        let depth = value_of(&options.depths, name);
+        let depth = value_of(&options.layout.depths, name);
         match capture.room(alloc, &read.requests, &read.flights, number, depth) {
             Ok(Some(room)) => {
                 let (slots, starts) = (room.slots, room.spare.total);
@@ -338,18 +345,4 @@ fn rooms_of(
         number = number.saturating_add(1);
     }
     Ok(rooms)
-}
-
-fn recording_of(
-    alloc: Global,
-    options: &ImportOptions,
-    capture: &Capture,
-    spare: &[Vec<u32>],
-    read: &Read,
-) -> Result<Recording, ImportFault> {
-    let (devices, rated) = devices_of(alloc, options, capture, &read.devices)?;
-    let (adapters, open) = adapters_of(alloc, &options.hosts, &read.devices, &devices)?;
-    let config = config_of(alloc, &adapters, &devices)?;
-    let names = names_of(alloc, &read.drivers, &read.devices)?;
-    Ok(capture.recording(alloc, &config, &rated, &open, spare, names)?)
 }

@@ -3,7 +3,6 @@
 use crate::import_note::line_note;
 use crate::import_options::ImportOptions;
 use crate::import_span::unit_word;
-use crate::import_words::value_of;
 use crate::note::tell_note;
 use crate::words::word_at;
 use cam_types::standard_weights;
@@ -15,6 +14,7 @@ use slots::Slots;
 use std::alloc::{AllocError, Global};
 use std::rt::Runtime;
 use views::shown_name;
+use window_recordings::value_of;
 use wording::{Page, push_nanoseconds};
 
 /// Says which line was refused first, and why, if lines were left out.
@@ -92,13 +92,13 @@ pub fn warn_missing<R: Runtime + AllocGlobal>(rt: &R, options: &ImportOptions, r
     for pick in &options.taken.devices {
         warn_unknown(rt, "--device names", pick.name(), &read.devices);
     }
-    for (name, _) in &options.hosts {
+    for (name, _) in &options.layout.hosts {
         warn_unknown(rt, "--host names", name, &read.devices);
     }
-    for (name, _) in &options.ratings {
+    for (name, _) in &options.layout.ratings {
         warn_unknown(rt, "--rated names", name, &read.devices);
     }
-    for (name, _) in &options.depths {
+    for (name, _) in &options.layout.depths {
         warn_unknown(rt, "--depth names", name, &read.devices);
     }
 }
@@ -119,7 +119,7 @@ pub fn tell_rooms<R: Runtime + AllocGlobal>(
     seen: &[Option<SeenSlots>],
 ) {
     for (name, seen) in names.iter().zip(seen.iter()) {
-        if value_of(&options.ratings, name).is_none() {
+        if value_of(&options.layout.ratings, name).is_none() {
             match seen {
                 Some(seen) => tell_slots(rt, name, *seen),
                 None => warn(
@@ -244,7 +244,7 @@ pub fn warn_recorded<R: Runtime + AllocGlobal>(
     read: &Read,
     recording: &Recording,
 ) {
-    for (name, _) in &options.ratings {
+    for (name, _) in &options.layout.ratings {
         if has_cap(recording, read, name) {
             warn(rt, "in some rounds", name, " took more than it is rated at");
         }

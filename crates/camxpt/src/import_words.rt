@@ -11,6 +11,7 @@ use capture_file::{CsvTimeUnit as CsvUnit, DevicePick, DriverBy, Priorities, Tol
 use clap::ArgMatches;
 use recording_file::{Span, TimeUnit};
 use std::alloc::{AllocError, Global};
+use window_recordings::{Host, value_of};
 
 /// An option by which names get numbers.
 pub struct Numbering {
@@ -58,13 +59,6 @@ pub enum Kind {
     Biosnoop,
     Fio,
     Csv(CsvUnit),
-}
-
-/// The adapter of a device, from 0 on, and how many requests that adapter takes in a round.
-#[derive(Clone, Copy)]
-pub struct Host {
-    pub adapter: u32,
-    pub openings: u32,
 }
 
 /// Tests that standard input is at most one of the files.
@@ -247,16 +241,6 @@ fn host_in(word: &str) -> Option<(&str, Host)> {
     let (adapter, openings) = rest.split_once(':')?;
     let (adapter, openings) = (number_in(adapter)?, number_in(openings)?);
     (adapter < 8 && openings > 0 && openings < 256).then_some((name, Host { adapter, openings }))
-}
-
-/// What a list has for a name.
-pub fn value_of<T: Copy>(list: &[(String, T)], name: &str) -> Option<T> {
-    for (other, value) in list {
-        if other.as_str() == name {
-            return Some(*value);
-        }
-    }
-    None
 }
 
 /// A time in seconds, which may have a fraction, in nanoseconds.

@@ -281,8 +281,8 @@ const VIEWS: [Subcommand; 8] = [
     },
 ];
 
-// Those that make an input, and completions; the help has them after the others.
-const MAKERS: [Subcommand; 10] = [
+// Those that run scripts or make an input of another one.
+const MAKERS: [Subcommand; 7] = [
     Subcommand {
         name: "sim",
         about: "Runs a script on one thread and prints the trace, and on standard error how the run ended",
@@ -353,6 +353,10 @@ const MAKERS: [Subcommand; 10] = [
         example: "Example: camxpt script examples/frozen-device.csv",
         words: &[EITHER],
     },
+];
+
+// Those that read captures, and completions, which stand last.
+const LAST: [Subcommand; 3] = [
     Subcommand {
         name: "import",
         about: "Prints the recording of a capture by blktrace, perf, trace-cmd, biosnoop or fio, or of a CSV file with named columns",
@@ -436,14 +440,22 @@ const MAKERS: [Subcommand; 10] = [
     },
 ];
 
-/// The subcommands that say what an input has, in the order of the help.
-pub(crate) fn views() -> &'static [Subcommand] {
+/// All subcommands, in the order of the help.
+pub(crate) fn subcommands() -> [&'static [Subcommand]; 3] {
+    [views(), makers(), last()]
+}
+
+// (a table of all of them in one takes much longer to prove)
+fn views() -> &'static [Subcommand] {
     &VIEWS
 }
 
-/// The other subcommands, in the order of the help.
-pub(crate) fn makers() -> &'static [Subcommand] {
+fn makers() -> &'static [Subcommand] {
     &MAKERS
+}
+
+fn last() -> &'static [Subcommand] {
+    &LAST
 }
 
 /// The words that the program takes.
@@ -456,16 +468,10 @@ pub fn command<'a>(alloc: Global) -> Result<Command<'a>, AllocError> {
         .after_help(
             "Exit status: 0 done, 1 not proved, 2 refused words, 3 refused input, 4 a file, read or write that failed, 5 no memory, 6 no thread, or threads that did what the script doesn't allow, 7 a run that didn't drain, with --require-drained",
         );
-    for subcommand in views() {
-        command = command.subcommand(subcommand.command(alloc)?)?;
-    }
-    with_makers(alloc, command)
-}
-
-fn with_makers<'a>(alloc: Global, command: Command<'a>) -> Result<Command<'a>, AllocError> {
-    let mut command = command;
-    for subcommand in makers() {
-        command = command.subcommand(subcommand.command(alloc)?)?;
+    for group in subcommands() {
+        for subcommand in group {
+            command = command.subcommand(subcommand.command(alloc)?)?;
+        }
     }
     Ok(command)
 }

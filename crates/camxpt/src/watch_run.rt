@@ -5,11 +5,10 @@ use crate::import_options::ImportOptions;
 use crate::import_run::{Files, tell_fault};
 use crate::import_words::{tolerance_of, window_of};
 use crate::output::{Output, print, standard_output};
-use crate::window_cut::CutWindow;
 use crate::window_files::{file_name, write_text, write_whole};
 use crate::window_reader::WindowSink;
 use crate::word_fault::WordFault;
-use capture_file::{Refused, Tolerance};
+use capture_file::{Counts, Refused, Tolerance};
 use clap::ArgMatches;
 use cost_plan::plan;
 use recording_file::{Recording, Span};
@@ -20,6 +19,7 @@ use std::rt::Runtime;
 use std::{fs, io};
 use wait_causes::Explanation;
 use watching::{Sums, TABLE_HEAD, Window, exposition, table_row, window_json};
+use window_recordings::CutWindow;
 
 // How long a window is where that isn't given, in nanoseconds.
 const USUAL_WINDOW: u64 = 10_000_000_000;
@@ -205,15 +205,13 @@ impl<'a, R: Runtime + AllocGlobal> Watcher<'a, R> {
 }
 
 impl<R: Runtime + AllocGlobal> WindowSink for Watcher<'_, R> {
-    fn take(&mut self, window: CutWindow) -> Result<(), ImportFault> {
+    fn take(&mut self, number: u64, window: CutWindow, counts: Counts) -> Result<(), ImportFault> {
         let CutWindow {
-            number,
             from,
             until,
             round,
             rounds,
             carried,
-            counts,
             recording,
             ..
         } = window;

@@ -2,15 +2,16 @@
 
 use crate::import_fault::{FileOption, ImportFault};
 use crate::output::{Output, file_output, print, standard_output};
-use crate::window_cut::CutWindow;
 use crate::window_reader::WindowSink;
 use cam_types::Watched;
 use capture::span_nanoseconds;
+use capture_file::Counts;
 use recording_file::{Recording, WriteFault, write_recording};
 use std::alloc::{AllocError, Global};
 use std::fs::File;
 use std::rt::Runtime;
 use std::{fs, io};
+use window_recordings::CutWindow;
 
 /// A folder for the recordings of windows, and standard output for a table of them.
 #[derive(Drop)]
@@ -44,7 +45,12 @@ impl<'a, R: Runtime + AllocGlobal> WindowFiles<'a, R> {
 }
 
 impl<R: Runtime + AllocGlobal> WindowSink for WindowFiles<'_, R> {
-    fn take(&mut self, window: CutWindow) -> Result<(), ImportFault> {
+    fn take(
+        &mut self,
+        _number: u64,
+        window: CutWindow,
+        _counts: Counts,
+    ) -> Result<(), ImportFault> {
         let alloc = self.rt.alloc();
         let mut name = String::new(alloc);
         if let Some(recording) = &window.recording {

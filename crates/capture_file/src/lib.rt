@@ -12,7 +12,6 @@ pub use number::time_of;
 pub use options::{CsvTimeUnit, DriverBy, Options, Priorities, SLACK};
 pub use sorted_reader::SortedReader;
 pub use table_reader::{TableForm, TableReader};
-pub use window_parts::WindowParts;
 
 mod biosnoop_row;
 mod blkparse_line;
@@ -40,5 +39,4 @@ mod sizes;
 mod sorted_reader;
 mod table_reader;
 mod tracepoint_line;
-mod window_parts;
 mod words;

@@ -161,9 +161,10 @@ camxpt_code camxpt_close(camxpt *x)
 }
 
 camxpt_code camxpt_submit(camxpt *x, uint8_t driver, uint32_t device, uint32_t priority, uint32_t retries, bool qfreeze,
-                          bool qfrzdis, uint32_t *ccb)
+                          bool qfrzdis, void *user, uint32_t *ccb)
 {
-    return CALL(x, ccb, camxpt_raw_submit(&x->raw_, driver, device, priority, retries, qfreeze, qfrzdis, ccb));
+    return CALL(x, ccb,
+                camxpt_raw_submit(&x->raw_, driver, device, priority, retries, qfreeze, qfrzdis, (uintptr_t)user, ccb));
 }
 
 camxpt_code camxpt_send_next(camxpt *x, uint32_t lane, camxpt_command *command)
@@ -227,7 +228,12 @@ camxpt_code camxpt_has_head(camxpt *x, uint32_t lane)
 
 camxpt_code camxpt_next_case(camxpt *x, camxpt_case *found)
 {
-    return CALL(x, found, camxpt_raw_next_case(&x->raw_, found));
+    return camxpt_case_at(x, 0, found);
+}
+
+camxpt_code camxpt_case_at(camxpt *x, size_t number, camxpt_case *found)
+{
+    return CALL(x, found, camxpt_raw_case_at(&x->raw_, number, found));
 }
 
 camxpt_code camxpt_look(camxpt *x, camxpt_counts *counts)
@@ -235,9 +241,17 @@ camxpt_code camxpt_look(camxpt *x, camxpt_counts *counts)
     return CALL(x, counts, camxpt_raw_look(&x->raw_, counts));
 }
 
-camxpt_code camxpt_take(camxpt *x, const camxpt_event *event)
+camxpt_code camxpt_device_state(camxpt *x, uint32_t device, camxpt_device_counts *counts)
 {
-    return CALL(x, event, camxpt_raw_take(&x->raw_, event));
+    return CALL(x, counts, camxpt_raw_device_state(&x->raw_, device, counts));
+}
+
+camxpt_code camxpt_take(camxpt *x, const camxpt_event *event, uint32_t *ccb, camxpt_completion *done)
+{
+    uint32_t no_ccb = 0;
+    camxpt_completion no_done = {0, 0, NULL};
+
+    return CALL(x, event, camxpt_raw_take(&x->raw_, event, ccb ? ccb : &no_ccb, done ? done : &no_done));
 }
 
 camxpt_code camxpt_refusal(camxpt *x, const camxpt_event *event)

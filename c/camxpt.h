@@ -13,7 +13,8 @@
  *   - An out-parameter is initialized memory that overlaps no other argument. A call that doesn't answer CAMXPT_OK leaves it as
  *     it was. But at CAMXPT_E_SPACE camxpt_trace, camxpt_recording and camxpt_carry say how much room they need; and
  *     camxpt_recording says which cap or request is wrong.
- *   - A null pointer answers CAMXPT_E_NULL, unless it is an array of length 0. No other wrong pointer is noticed.
+ *   - A null pointer answers CAMXPT_E_NULL, unless it is an array of length 0, or it may be null where the call says so. No other
+ *     wrong pointer is noticed.
  *   - No call comes from a signal handler, or in the child of a fork of a process with threads. Memory is this program's
  *     malloc, realloc and free. Only camxpt_open, camxpt_open_with, camxpt_carry, camxpt_trace and camxpt_recording ask for
  *     any. A longjmp out of malloc loses the handle: it answers CAMXPT_E_CLOSED then, and its memory isn't freed.
@@ -108,7 +109,7 @@ enum {
     CAMXPT_IDLE_ADAPTER_FROZEN = 33,
     CAMXPT_IDLE_ADAPTER_BUSY = 34,
     CAMXPT_IDLE_DEVICES_HELD = 35,
-    /** there is none (camxpt_next_case, camxpt_has_head) */
+    /** there is none (camxpt_next_case, camxpt_case_at, camxpt_has_head) */
     CAMXPT_NONE = 36,
     /** CCBs wait for a decision (camxpt_carry) */
     CAMXPT_UNDECIDED = 37,
@@ -236,6 +237,7 @@ typedef struct camxpt_command {
     uint32_t device;   /**< the number of its device */
     uint32_t priority; /**< 0 to 1279, the smaller number the more urgent */
     uint8_t driver;    /**< who submitted it */
+    void *user;        /**< the pointer that its CCB was submitted with */
 } camxpt_command;
 
 /** What a result asks for. */
@@ -251,17 +253,19 @@ enum {
 /** Whether a class asks for camxpt_requeue. If not, and it isn't CAMXPT_COMPLETE, it asks for camxpt_finish. */
 #define CAMXPT_ASKS_REQUEUE(class_) ((class_) == CAMXPT_FREE_REQUEUE || (class_) == CAMXPT_COUNTED_REQUEUE)
 
-/** What a completion comes to: its class, and the CAM status to hand up, with CAM_DEV_QFRZN if it froze its device's queue and
- *  CAM_AUTOSNS_VALID if its sense data can be read. */
+/** What a completion comes to: its class; the CAM status to hand up, with CAM_DEV_QFRZN if it froze its device's queue and
+ *  CAM_AUTOSNS_VALID if its sense data can be read; and the pointer that its CCB was submitted with. */
 typedef struct camxpt_completion {
     uint32_t class_;
     uint8_t value;
+    void *user;
 } camxpt_completion;
 
-/** A CCB that waits for a decision, and the class of its last result. */
+/** A CCB that waits for a decision, the class of its last result, and the pointer that it was submitted with. */
 typedef struct camxpt_case {
     uint32_t ccb;
     uint32_t class_;
+    void *user;
 } camxpt_case;
 
 /** What there is to see of a transport, in counts. */
@@ -271,8 +275,21 @@ typedef struct camxpt_counts {
     uint32_t in_flight; /**< the CCBs in flight */
     uint32_t cases;     /**< the CCBs that wait for a decision */
     uint32_t waiting;   /**< the stays without a send */
+    uint32_t stays;     /**< the stays that have begun: the submits and requeues so far */
+    uint32_t alive;     /**< the CCBs alive: submitted, and neither completed nor finished */
     size_t heads;       /**< the lanes whose adapter has something to send */
 } camxpt_counts;
+
+/** What there is to see of a device, in counts. While it has a freeze of either kind, nothing is sent to it. */
+typedef struct camxpt_device_counts {
+    uint32_t queued;        /**< the CCBs in its queue */
+    uint32_t requeued;      /**< the CCBs that enter it with the next round */
+    uint32_t in_flight;     /**< its CCBs in flight */
+    uint32_t openings;      /**< how many commands may be sent to it in this round */
+    uint32_t next_openings; /**< the same in the next round: after camxpt_adjust it may be another number */
+    uint32_t callers;       /**< its freezes that callers made: camxpt_freeze_dev, and sends of CCBs with qfreeze */
+    uint32_t errors;        /**< its freezes by errors: one for each CCB that waits for a decision, without qfrzdis */
+} camxpt_device_counts;
 
 /** The kinds of events. In brackets: the members of camxpt_event that are read. */
 enum {
@@ -368,25 +385,38 @@ CAMXPT_AT_(camxpt_adapter, link, 4);
 CAMXPT_SIZE_(camxpt_weight, 8);
 CAMXPT_AT_(camxpt_weight, last, 0);
 CAMXPT_AT_(camxpt_weight, weight, 4);
-CAMXPT_SIZE_(camxpt_command, 20);
+CAMXPT_SIZE_(camxpt_command, 32);
 CAMXPT_AT_(camxpt_command, ccb, 0);
 CAMXPT_AT_(camxpt_command, attempt, 4);
 CAMXPT_AT_(camxpt_command, device, 8);
 CAMXPT_AT_(camxpt_command, priority, 12);
 CAMXPT_AT_(camxpt_command, driver, 16);
-CAMXPT_SIZE_(camxpt_completion, 8);
+CAMXPT_AT_(camxpt_command, user, 24);
+CAMXPT_SIZE_(camxpt_completion, 16);
 CAMXPT_AT_(camxpt_completion, class_, 0);
 CAMXPT_AT_(camxpt_completion, value, 4);
-CAMXPT_SIZE_(camxpt_case, 8);
+CAMXPT_AT_(camxpt_completion, user, 8);
+CAMXPT_SIZE_(camxpt_case, 16);
 CAMXPT_AT_(camxpt_case, ccb, 0);
 CAMXPT_AT_(camxpt_case, class_, 4);
-CAMXPT_SIZE_(camxpt_counts, 32);
+CAMXPT_AT_(camxpt_case, user, 8);
+CAMXPT_SIZE_(camxpt_counts, 40);
 CAMXPT_AT_(camxpt_counts, length, 0);
 CAMXPT_AT_(camxpt_counts, round, 4);
 CAMXPT_AT_(camxpt_counts, in_flight, 8);
 CAMXPT_AT_(camxpt_counts, cases, 12);
 CAMXPT_AT_(camxpt_counts, waiting, 16);
-CAMXPT_AT_(camxpt_counts, heads, 24);
+CAMXPT_AT_(camxpt_counts, stays, 20);
+CAMXPT_AT_(camxpt_counts, alive, 24);
+CAMXPT_AT_(camxpt_counts, heads, 32);
+CAMXPT_SIZE_(camxpt_device_counts, 28);
+CAMXPT_AT_(camxpt_device_counts, queued, 0);
+CAMXPT_AT_(camxpt_device_counts, requeued, 4);
+CAMXPT_AT_(camxpt_device_counts, in_flight, 8);
+CAMXPT_AT_(camxpt_device_counts, openings, 12);
+CAMXPT_AT_(camxpt_device_counts, next_openings, 16);
+CAMXPT_AT_(camxpt_device_counts, callers, 20);
+CAMXPT_AT_(camxpt_device_counts, errors, 24);
 CAMXPT_SIZE_(camxpt_event, 60);
 CAMXPT_AT_(camxpt_event, kind, 0);
 CAMXPT_AT_(camxpt_event, ccb, 4);
@@ -439,10 +469,12 @@ CAMXPT_NODISCARD camxpt_code camxpt_open_with(camxpt *x, const camxpt_config *c,
 camxpt_code camxpt_close(camxpt *x);
 
 /** Submits a CCB of the driver to the device, and sets *ccb to its number. A priority is 0 to 1279, retries are 0 to 7. With
- *  qfreeze each send of the CCB freezes its device by one; with qfrzdis its failures don't freeze it.
+ *  qfreeze each send of the CCB freezes its device by one; with qfrzdis its failures don't freeze it. `user` is any pointer of
+ *  yours, also NULL: it comes back with each command, completion and case of the CCB, also after camxpt_carry, and what it
+ *  points to is never looked at.
  *  Refused: HISTORY_FULL, NO_DEVICE, BAD_PRIORITY, BAD_RETRIES, CCB_FULL, STAYS_FULL. */
 CAMXPT_NODISCARD camxpt_code camxpt_submit(camxpt *x, uint8_t driver, uint32_t device, uint32_t priority, uint32_t retries,
-                                           bool qfreeze, bool qfrzdis, uint32_t *ccb);
+                                           bool qfreeze, bool qfrzdis, void *user, uint32_t *ccb);
 
 /** Sends the next command of the lane's adapter, and sets *command to it; or the lane is idle (CAMXPT_IS_IDLE).
  *  Refused: HISTORY_FULL, NO_LANE. */
@@ -487,12 +519,23 @@ CAMXPT_NODISCARD camxpt_code camxpt_has_head(camxpt *x, uint32_t lane);
 /** Sets *found to the CCB that completed first of those that wait for a decision; CAMXPT_NONE if none waits. */
 CAMXPT_NODISCARD camxpt_code camxpt_next_case(camxpt *x, camxpt_case *found);
 
-/** Sets *counts to what there is to see. */
+/** The CCBs that wait for a decision are numbered from 0 in the order in which they completed. Sets *found to the one of this
+ *  number; CAMXPT_NONE if there are no more. While nothing changes, the numbers 0, 1, 2 .. give each of them once; after a
+ *  decision those behind move up by one. */
+CAMXPT_NODISCARD camxpt_code camxpt_case_at(camxpt *x, size_t number, camxpt_case *found);
+
+/** Sets *counts to what there is to see. Against the limits: length is at most the events, round the rounds, stays the stays, and
+ *  alive the CCBs. */
 CAMXPT_NODISCARD camxpt_code camxpt_look(camxpt *x, camxpt_counts *counts);
 
+/** Sets *counts to what there is to see of the device. Answers NO_DEVICE if there is no such device. */
+CAMXPT_NODISCARD camxpt_code camxpt_device_state(camxpt *x, uint32_t device, camxpt_device_counts *counts);
+
 /** Takes an event of any kind, as the call of that kind does, and with its refusals. A send is refused with the first of
- *  HISTORY_FULL, NO_LANE, NO_CCB, NOT_QUEUED, WRONG_LANE, DEVICE_FROZEN, ADAPTER_FROZEN, NO_OPENING and NOT_HEAD. */
-CAMXPT_NODISCARD camxpt_code camxpt_take(camxpt *x, const camxpt_event *event);
+ *  HISTORY_FULL, NO_LANE, NO_CCB, NOT_QUEUED, WRONG_LANE, DEVICE_FROZEN, ADAPTER_FROZEN, NO_OPENING and NOT_HEAD. The pointer of
+ *  a CCB that is submitted so is NULL. A submit sets *ccb to its number, and a completion sets *done to what it comes to; what
+ *  another event leaves as it was. Either may be NULL. */
+CAMXPT_NODISCARD camxpt_code camxpt_take(camxpt *x, const camxpt_event *event, uint32_t *ccb, camxpt_completion *done);
 
 /** What camxpt_take would answer now. It takes nothing. */
 CAMXPT_NODISCARD camxpt_code camxpt_refusal(camxpt *x, const camxpt_event *event);
@@ -510,10 +553,10 @@ CAMXPT_NODISCARD camxpt_code camxpt_trace(camxpt *x, void *buffer, size_t room, 
  *
  *  `to` has the configuration of `from`, these limits, and an empty first round; it is in its second one, which stands for the
  *  next round of `from`. Its openings are those that the next round of `from` would have, and its freezes those that callers
- *  made. Each CCB that waits is submitted to it, with the retries that it has left, so that each queue has the same commands
- *  in the same order; its attempts begin at 0 again. Of devices whose next commands have one priority, the one of the lowest
- *  number has the first turn. numbers[k] is set to the number that CCB k of `to` has in `from`, and *count to how many these
- *  are.
+ *  made. Each CCB that waits is submitted to it, with the retries that it has left and with its pointer, so that each queue has
+ *  the same commands in the same order; its attempts begin at 0 again. Of devices whose next commands have one priority, the
+ *  one of the lowest number has the first turn. numbers[k] is set to the number that CCB k of `to` has in `from`, and *count to
+ *  how many these are.
  *
  *  Answers CAMXPT_E_OPEN if `to` is open, or is `from`; CAMXPT_E_LIMIT; CAMXPT_E_MEMORY; CAMXPT_IN_FLIGHT if a result is due;
  *  CAMXPT_UNDECIDED if a CCB waits for a decision; ROUNDS_FULL, CCB_FULL, STAYS_FULL or HISTORY_FULL if the limits have no room
@@ -527,8 +570,8 @@ CAMXPT_NODISCARD camxpt_code camxpt_carry(camxpt *from, camxpt *to, const camxpt
  *  set to its length, at CAMXPT_E_SPACE too, so a call with (NULL, 0) asks for the length.
  *
  *  The configuration is as for camxpt_open_with, but its lanes aren't read: a recording has none. The unit says how long a
- *  round is; it may be null, and has to be a unit also where its count is 0. There may be at most 1,048,576 requests, in any order. If one of them says when it was completed,
- *  the text is of version 2, `camrecord2`, which says so of each that does.
+ *  round is; it may be null, and has to be a unit also where its count is 0. There may be at most 1,048,576 requests, in any
+ *  order. If one of them says when it was completed, the text is of version 2, `camrecord2`, which says so of each that does.
  *
  *  Answers what is wrong first, in this order: CAMXPT_E_UNIT; CAMXPT_E_ROUNDS; CAMXPT_E_REQUESTS; a CAMXPT_FAULT_*;
  *  CAMXPT_E_CAP, if a cap's kind is none, if there is no such device, adapter or link, if the cap doesn't come after the caps

@@ -7,6 +7,12 @@
 
 enum { DRIVER = 7, NORMAL = 1152, URGENT = 128, RETRIES = 3 };
 
+/* A request of the driver's: its CCB is submitted with a pointer to it, which comes back with each command. */
+struct request {
+    uint32_t disk, priority;
+    bool is_invalid;
+};
+
 /* Ends the program if a call wasn't done. */
 static void want(camxpt_code code, const char *call)
 {
@@ -16,29 +22,30 @@ static void want(camxpt_code code, const char *call)
     exit(EXIT_FAILURE);
 }
 
-/* What a disk answers: disk 1 is busy the first time, and CCB 4 is a request that no disk takes. */
+/* What a disk answers: disk 1 is busy the first time, and no disk takes an invalid request. */
 static uint8_t serve(const camxpt_command *command)
 {
     static int asked;
+    const struct request *request = (const struct request *)command->user;
 
     if (command->device == 1 && asked++ == 0)
         return CAM_BUSY;
-    return command->ccb == 4 ? CAM_REQ_INVALID : CAM_REQ_CMP;
+    return request->is_invalid ? CAM_REQ_INVALID : CAM_REQ_CMP;
 }
 
-static void submit(camxpt *x, uint32_t disk, uint32_t priority)
+static void submit(camxpt *x, struct request *request)
 {
     uint32_t ccb = 0;
 
-    want(camxpt_submit(x, DRIVER, disk, priority, RETRIES, false, false, &ccb), "submit");
-    printf("submit ccb %u to disk %u at priority %u\n", ccb, disk, priority);
+    want(camxpt_submit(x, DRIVER, request->disk, request->priority, RETRIES, false, false, request, &ccb), "submit");
+    printf("submit ccb %u to disk %u at priority %u\n", ccb, request->disk, request->priority);
 }
 
 /* Sends what the lane may send, and hands in each result. */
 static void run_lane(camxpt *x, uint32_t lane)
 {
-    camxpt_command command = {0, 0, 0, 0, 0};
-    camxpt_completion done = {0, 0};
+    camxpt_command command = {0, 0, 0, 0, 0, NULL};
+    camxpt_completion done = {0, 0, NULL};
     camxpt_code code;
 
     while ((code = camxpt_send_next(x, lane, &command)) == CAMXPT_OK) {
@@ -56,7 +63,7 @@ static void run_lane(camxpt *x, uint32_t lane)
 /* Decides on each command that failed, as its class asks. */
 static void recover(camxpt *x)
 {
-    camxpt_case found = {0, 0};
+    camxpt_case found = {0, 0, NULL};
     camxpt_code code;
 
     while ((code = camxpt_next_case(x, &found)) == CAMXPT_OK) {
@@ -93,8 +100,11 @@ int main(int argc, char **argv)
     static const uint32_t adapters[] = {2}, lanes[] = {0};
     static const camxpt_device disks[] = {{0, 0, 0, 1}, {0, 1, 0, 1}};
     static const camxpt_limits limits = {16, 64, 64, 1024};
+    static struct request requests[] = {
+        {0, NORMAL, false}, {1, NORMAL, false}, {0, NORMAL, false}, {1, NORMAL, false}, {0, URGENT, true},
+    };
     camxpt x = CAMXPT_INIT;
-    camxpt_counts counts = {0, 0, 0, 0, 0, 0};
+    camxpt_counts counts = {0, 0, 0, 0, 0, 0, 0, 0};
     uint32_t round = 1, ccb = 0;
 
     if (argc != 2) {
@@ -102,9 +112,8 @@ int main(int argc, char **argv)
         return 2;
     }
     want(camxpt_open(&x, adapters, 1, disks, 2, lanes, 1, &limits), "open");
-    for (uint32_t k = 0; k < 4; k++)
-        submit(&x, k % 2, NORMAL);
-    submit(&x, 0, URGENT);
+    for (size_t k = 0; k < sizeof requests / sizeof *requests; k++)
+        submit(&x, &requests[k]);
     want(camxpt_freeze_dev(&x, 0, 1), "freeze_dev");
     do {
         printf("round %u\n", round);
@@ -117,7 +126,7 @@ int main(int argc, char **argv)
     } while (counts.waiting > 0);
     want(camxpt_look(&x, &counts), "look");
     printf("%u events in %u rounds\n", counts.length, counts.round);
-    printf("submit to disk 9: %s\n", camxpt_code_name(camxpt_submit(&x, DRIVER, 9, NORMAL, 0, false, false, &ccb)));
+    printf("submit to disk 9: %s\n", camxpt_code_name(camxpt_submit(&x, DRIVER, 9, NORMAL, 0, false, false, NULL, &ccb)));
     save(&x, argv[1]);
     want(camxpt_close(&x), "close");
     printf("tick after close: %s\n", camxpt_code_name(camxpt_tick(&x, &round)));

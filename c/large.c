@@ -49,8 +49,8 @@ static char *room_for(size_t size)
 /* Sends what can be sent, and completes it. Each event is counted. */
 static size_t run_lane(camxpt *x)
 {
-    camxpt_command command = {0, 0, 0, 0, 0};
-    camxpt_completion done = {0, 0};
+    camxpt_command command = {0, 0, 0, 0, 0, NULL};
+    camxpt_completion done = {0, 0, NULL};
     size_t events = 0;
 
     while (camxpt_send_next(x, 0, &command) == CAMXPT_OK) {
@@ -65,7 +65,7 @@ static size_t run_lane(camxpt *x)
 static void write_trace(const char *path)
 {
     camxpt x = CAMXPT_INIT;
-    camxpt_counts counts = {0, 0, 0, 0, 0, 0};
+    camxpt_counts counts = {0, 0, 0, 0, 0, 0, 0, 0};
     size_t events = 0, size = 0;
     uint32_t ccb = 0, round = 1;
     char *text;
@@ -73,7 +73,7 @@ static void write_trace(const char *path)
     want(camxpt_open(&x, adapters, 1, disks, 2, lanes, 1, &limits), CAMXPT_OK, "open");
     for (;; events++) {
         for (uint32_t k = 0; round % 2 == 1 && k < 2 * OPENINGS; k++, events++)
-            want(camxpt_submit(&x, 0, k % 2, NORMAL, 0, false, false, &ccb), CAMXPT_OK, "submit");
+            want(camxpt_submit(&x, 0, k % 2, NORMAL, 0, false, false, NULL, &ccb), CAMXPT_OK, "submit");
         events += run_lane(&x);
         if (round == ROUNDS)
             break;

@@ -5,7 +5,6 @@
 
 #include <stdio.h>
 #include <stdlib.h>
-#include <string.h>
 
 enum { DRIVER = 3, NORMAL = 1152, URGENT = 128, RETRIES = 7, REQUESTS = 60, TRIES = 256, FREEZE = 14, RELEASE = 20 };
 
@@ -18,9 +17,13 @@ static const camxpt_limits limits = {TRIES, 16, TRIES, 1024};
 
 /* The transport, and the handle of the next one. */
 static camxpt handles[2] = {CAMXPT_INIT, CAMXPT_INIT}, *x = &handles[0], *next = &handles[1];
-/* The tries, and which of them each CCB of the transport is. */
+/* The tries, and the requests, each with the try that it is at: a CCB has a pointer to its request, over all transports. */
 static camxpt_request tries[TRIES];
-static size_t count, of_ccb[TRIES];
+static size_t count;
+static struct request {
+    uint32_t disk, priority;
+    size_t at;
+} requests[REQUESTS];
 /* The round, counted over all transports, and how many of them there were. */
 static uint32_t now = 1, transports = 1;
 
@@ -32,55 +35,53 @@ static void want(camxpt_code code, const char *call)
     exit(EXIT_FAILURE);
 }
 
-/* A CCB has one try more, which waits from the round `arrival` on. */
-static void add_try(uint32_t ccb, uint32_t disk, uint32_t priority, uint32_t arrival)
+/* A request has one try more, which waits from the round `arrival` on. */
+static void add_try(struct request *request, uint32_t arrival)
 {
-    const camxpt_request one = {disk, priority, arrival, CAMXPT_NO_LAST, 0, DRIVER, CAMXPT_NO_DONE};
+    const camxpt_request one = {request->disk, request->priority, arrival, CAMXPT_NO_LAST, 0, DRIVER, CAMXPT_NO_DONE};
 
-    of_ccb[ccb] = count;
+    request->at = count;
     tries[count++] = one;
 }
 
 static void submit(uint32_t number)
 {
-    const uint32_t priority = number % 5 == 0 ? URGENT : NORMAL;
+    struct request *request = &requests[number];
     uint32_t ccb = 0;
 
-    want(camxpt_submit(x, DRIVER, number % 2, priority, RETRIES, false, false, &ccb), "submit");
-    add_try(ccb, number % 2, priority, now);
+    request->disk = number % 2;
+    request->priority = number % 5 == 0 ? URGENT : NORMAL;
+    want(camxpt_submit(x, DRIVER, request->disk, request->priority, RETRIES, false, false, request, &ccb), "submit");
+    add_try(request, now);
 }
 
 /* Sends what can be sent. A try that is busy could have been started up to this round, and its CCB is tried again. */
 static void run_lane(void)
 {
     static unsigned served;
-    camxpt_command command = {0, 0, 0, 0, 0};
-    camxpt_completion done = {0, 0};
+    camxpt_command command = {0, 0, 0, 0, 0, NULL};
+    camxpt_completion done = {0, 0, NULL};
 
     while (camxpt_send_next(x, 0, &command) == CAMXPT_OK) {
-        camxpt_request *sent = &tries[of_ccb[command.ccb]];
-        sent->start = now;
+        struct request *request = (struct request *)command.user;
+        tries[request->at].start = now;
         want(camxpt_done(x, command.ccb, ++served % 7 == 0 ? CAM_BUSY : CAM_REQ_CMP, 0, NULL, 0, &done), "done");
         if (done.class_ == CAMXPT_COMPLETE)
             continue;
-        sent->last = now;
+        tries[request->at].last = now;
         want(camxpt_requeue(x, command.ccb), "requeue");
-        add_try(command.ccb, command.device, command.priority, now + 1);
+        add_try(request, now + 1);
     }
 }
 
-/* Opens the next round in a fresh transport. */
+/* Opens the next round in a fresh transport, in which the CCBs have other numbers and the same pointers. */
 static void carry(void)
 {
     static uint32_t numbers[TRIES];
-    static size_t old[TRIES];
     camxpt *const ended = x;
     size_t carried = 0;
 
     want(camxpt_carry(x, next, &limits, numbers, TRIES, &carried), "carry");
-    memcpy(old, of_ccb, sizeof old);
-    for (size_t ccb = 0; ccb < carried; ccb++)
-        of_ccb[ccb] = old[numbers[ccb]];
     want(camxpt_close(ended), "close");
     x = next;
     next = ended;
@@ -104,7 +105,7 @@ static void save(const char *path)
 
 int main(int argc, char **argv)
 {
-    camxpt_counts counts = {0, 0, 0, 0, 0, 0};
+    camxpt_counts counts = {0, 0, 0, 0, 0, 0, 0, 0};
     uint32_t submitted = 0, round = 0;
 
     if (argc != 2)

@@ -83,7 +83,7 @@ static camxpt_code open_small(camxpt *x, const camxpt_limits *limits)
 
 static camxpt_code submit(camxpt *x, uint32_t disk, uint32_t *ccb)
 {
-    return camxpt_submit(x, 1, disk, 1152, 3, false, false, ccb);
+    return camxpt_submit(x, 1, disk, 1152, 3, false, false, NULL, ccb);
 }
 
 /* Handles that are closed, copied, moved or none. */
@@ -117,10 +117,11 @@ static void handles(void)
 static void closed(void)
 {
     camxpt x = CAMXPT_INIT, y = CAMXPT_INIT;
-    camxpt_command command = {1, 2, 3, 4, 5};
-    camxpt_completion done = {1, 2};
-    camxpt_case found = {1, 2};
-    camxpt_counts counts = {1, 2, 3, 4, 5, 6};
+    camxpt_command command = {1, 2, 3, 4, 5, NULL};
+    camxpt_completion done = {1, 2, NULL};
+    camxpt_case found = {1, 2, NULL};
+    camxpt_counts counts = {1, 2, 3, 4, 5, 6, 7, 8};
+    camxpt_device_counts device = {1, 2, 3, 4, 5, 6, 7};
     camxpt_event event;
     char text[4] = "abc";
     size_t size = 9;
@@ -140,32 +141,36 @@ static void closed(void)
     DUE(camxpt_adjust(&x, 0, 1), CAMXPT_E_CLOSED);
     DUE(camxpt_has_head(&x, 0), CAMXPT_E_CLOSED);
     DUE(camxpt_next_case(&x, &found), CAMXPT_E_CLOSED);
+    DUE(camxpt_case_at(&x, 0, &found), CAMXPT_E_CLOSED);
     DUE(camxpt_look(&x, &counts), CAMXPT_E_CLOSED);
-    DUE(camxpt_take(&x, &event), CAMXPT_E_CLOSED);
+    DUE(camxpt_device_state(&x, 0, &device), CAMXPT_E_CLOSED);
+    DUE(camxpt_take(&x, &event, &n, &done), CAMXPT_E_CLOSED);
     DUE(camxpt_refusal(&x, &event), CAMXPT_E_CLOSED);
     DUE(camxpt_events(&x, 0, &event, 1, &size), CAMXPT_E_CLOSED);
     DUE(camxpt_trace(&x, text, sizeof text, &size), CAMXPT_E_CLOSED);
     DUE(camxpt_carry(&x, &y, &most, &n, 1, &size), CAMXPT_E_CLOSED);
     /* the library's own tests, behind those of the header */
-    DUE(camxpt_raw_submit(&x.raw_, 1, 0, 0, 0, false, false, &n), CAMXPT_E_CLOSED);
+    DUE(camxpt_raw_submit(&x.raw_, 1, 0, 0, 0, false, false, 0, &n), CAMXPT_E_CLOSED);
     DUE(camxpt_raw_send_next(&x.raw_, 0, &command), CAMXPT_E_CLOSED);
     DUE(camxpt_raw_done(&x.raw_, 0, 1, 0, (const uint8_t *)text, 0, &done), CAMXPT_E_CLOSED);
     DUE(camxpt_raw_requeue(&x.raw_, 0), CAMXPT_E_CLOSED);
     DUE(camxpt_raw_has_head(&x.raw_, 0), CAMXPT_E_CLOSED);
-    DUE(camxpt_raw_next_case(&x.raw_, &found), CAMXPT_E_CLOSED);
+    DUE(camxpt_raw_case_at(&x.raw_, 0, &found), CAMXPT_E_CLOSED);
     DUE(camxpt_raw_look(&x.raw_, &counts), CAMXPT_E_CLOSED);
-    DUE(camxpt_raw_take(&x.raw_, &event), CAMXPT_E_CLOSED);
+    DUE(camxpt_raw_device_state(&x.raw_, 0, &device), CAMXPT_E_CLOSED);
+    DUE(camxpt_raw_take(&x.raw_, &event, &n, &done), CAMXPT_E_CLOSED);
     DUE(camxpt_raw_refusal(&x.raw_, &event), CAMXPT_E_CLOSED);
     DUE(camxpt_raw_events(&x.raw_, 0, &event, 1, &size), CAMXPT_E_CLOSED);
     DUE(camxpt_raw_trace(&x.raw_, (uint8_t *)text, sizeof text, &size), CAMXPT_E_CLOSED);
     DUE(camxpt_raw_carry(&x.raw_, &y.raw_, &most, &n, 1, &size), CAMXPT_E_CLOSED);
     event.kind = 0;
-    DUE(camxpt_raw_take(&x.raw_, &event), CAMXPT_E_CLOSED);
+    DUE(camxpt_raw_take(&x.raw_, &event, &n, &done), CAMXPT_E_CLOSED);
     DUE(camxpt_raw_refusal(&x.raw_, &event), CAMXPT_E_CLOSED);
     DUE(camxpt_raw_close(&x.raw_), CAMXPT_E_CLOSED);
     HOLDS(command.ccb == 1 && command.attempt == 2 && command.device == 3 && command.priority == 4 && command.driver == 5);
     HOLDS(done.class_ == 1 && done.value == 2 && found.ccb == 1 && found.class_ == 2 && n == 77);
-    HOLDS(counts.length == 1 && counts.round == 2 && counts.in_flight == 3 && counts.cases == 4 && counts.heads == 6);
+    HOLDS(counts.length == 1 && counts.round == 2 && counts.in_flight == 3 && counts.cases == 4 && counts.stays == 6 &&
+          counts.alive == 7 && counts.heads == 8 && device.queued == 1 && device.errors == 7);
     HOLDS(size == 9 && strcmp(text, "abc") == 0 && blocks == 0);
 }
 
@@ -187,8 +192,10 @@ static void nulls(void)
     DUE(camxpt_send_next(&x, 0, NULL), CAMXPT_E_NULL);
     DUE(camxpt_done(&x, 0, CAM_REQ_CMP, 0, NULL, 0, NULL), CAMXPT_E_NULL);
     DUE(camxpt_next_case(&x, NULL), CAMXPT_E_NULL);
+    DUE(camxpt_case_at(&x, 0, NULL), CAMXPT_E_NULL);
     DUE(camxpt_look(&x, NULL), CAMXPT_E_NULL);
-    DUE(camxpt_take(&x, NULL), CAMXPT_E_NULL);
+    DUE(camxpt_device_state(&x, 0, NULL), CAMXPT_E_NULL);
+    DUE(camxpt_take(&x, NULL, &n, NULL), CAMXPT_E_NULL);
     DUE(camxpt_refusal(&x, NULL), CAMXPT_E_NULL);
     DUE(camxpt_events(&x, 0, NULL, 1, &size), CAMXPT_E_NULL);
     DUE(camxpt_events(&x, 0, &event, 1, NULL), CAMXPT_E_NULL);
@@ -274,10 +281,10 @@ static void refusals(void)
     static const camxpt_limits small = {2, 3, 4, 24};
     static const uint8_t sense[64] = {0x70, 0, 6};
     camxpt x = CAMXPT_INIT;
-    camxpt_command command = {9, 9, 9, 9, 9};
-    camxpt_completion done = {9, 9};
-    camxpt_case found = {9, 9};
-    camxpt_counts counts = {9, 9, 9, 9, 9, 9};
+    camxpt_command command = {9, 9, 9, 9, 9, NULL};
+    camxpt_completion done = {9, 9, NULL};
+    camxpt_case found = {9, 9, NULL};
+    camxpt_counts counts = {9, 9, 9, 9, 9, 9, 9, 9};
     uint32_t n = 77;
     long before;
 
@@ -288,8 +295,8 @@ static void refusals(void)
     DUE(camxpt_send_next(&x, 0, &command), CAMXPT_IDLE_EMPTY);
     DUE(camxpt_send_next(&x, 1, &command), CAMXPT_NO_LANE);
     DUE(submit(&x, 2, &n), CAMXPT_NO_DEVICE);
-    DUE(camxpt_submit(&x, 1, 0, 1280, 0, false, false, &n), CAMXPT_BAD_PRIORITY);
-    DUE(camxpt_submit(&x, 1, 0, 0, 8, false, false, &n), CAMXPT_BAD_RETRIES);
+    DUE(camxpt_submit(&x, 1, 0, 1280, 0, false, false, NULL, &n), CAMXPT_BAD_PRIORITY);
+    DUE(camxpt_submit(&x, 1, 0, 0, 8, false, false, NULL, &n), CAMXPT_BAD_RETRIES);
     DUE(camxpt_done(&x, 0, CAM_REQ_CMP, 0, NULL, 0, &done), CAMXPT_NO_CCB);
     DUE(camxpt_requeue(&x, 0), CAMXPT_NO_CCB);
     DUE(camxpt_finish(&x, 0), CAMXPT_NO_CCB);
@@ -304,11 +311,13 @@ static void refusals(void)
     HOLDS(n == 77 && command.ccb == 9 && command.driver == 9 && done.class_ == 9 && found.ccb == 9);
     DUE(camxpt_look(&x, &counts), CAMXPT_OK);
     HOLDS(counts.length == 0 && counts.round == 1 && counts.in_flight == 0 && counts.cases == 0 && counts.waiting == 0);
-    DUE(camxpt_submit(&x, 5, 0, 1152, 1, true, false, &n), CAMXPT_OK);
+    DUE(camxpt_submit(&x, 5, 0, 1152, 1, true, false, NULL, &n), CAMXPT_OK);
     HOLDS(n == 0);
     DUE(submit(&x, 1, &n), CAMXPT_OK);
     HOLDS(n == 1);
     DUE(submit(&x, 1, &n), CAMXPT_CCB_FULL);
+    DUE(camxpt_look(&x, &counts), CAMXPT_OK);
+    HOLDS(counts.alive == small.ccbs && counts.stays == 2);
     DUE(camxpt_freeze_dev(&x, 0, 65535), CAMXPT_OK);
     DUE(camxpt_freeze_dev(&x, 0, 1), CAMXPT_FREEZE_OVERFLOW);
     DUE(camxpt_freeze_dev(&x, 1, 1), CAMXPT_OK);
@@ -351,12 +360,16 @@ static void refusals(void)
     DUE(camxpt_done(&x, 0, CAM_REQ_CMP, 0, NULL, 0, &done), CAMXPT_OK);
     HOLDS(done.class_ == CAMXPT_COMPLETE && done.value == CAM_REQ_CMP);
     DUE(submit(&x, 0, &n), CAMXPT_STAYS_FULL);
+    DUE(camxpt_look(&x, &counts), CAMXPT_OK);
+    HOLDS(counts.alive == 1 && counts.stays == small.stays);
     DUE(camxpt_tick(&x, &n), CAMXPT_OK);
     DUE(camxpt_tick(&x, &n), CAMXPT_ROUNDS_FULL);
     HOLDS(n == 3);
     for (int k = 0; k < 4; k++)
         DUE(camxpt_adjust(&x, 1, 2), CAMXPT_OK);
     DUE(camxpt_adjust(&x, 1, 2), CAMXPT_HISTORY_FULL);
+    DUE(camxpt_look(&x, &counts), CAMXPT_OK);
+    HOLDS(counts.length == small.events && counts.round == small.rounds);
     DUE(camxpt_tick(&x, &n), CAMXPT_HISTORY_FULL);
     HOLDS(requests == before);
     DUE(camxpt_close(&x), CAMXPT_OK);
@@ -386,7 +399,7 @@ static camxpt_code take(camxpt *x, const camxpt_event *event)
 {
     const camxpt_code got = camxpt_refusal(x, event);
 
-    DUE(camxpt_take(x, event), got);
+    DUE(camxpt_take(x, event, NULL, NULL), got);
     return got;
 }
 
@@ -401,7 +414,7 @@ static camxpt_code take_send(camxpt *x, uint32_t lane, uint32_t ccb)
 static void sends(void)
 {
     camxpt x = CAMXPT_INIT;
-    camxpt_command command = {0, 0, 0, 0, 0};
+    camxpt_command command = {0, 0, 0, 0, 0, NULL};
     camxpt_event event = event_of(12);
     uint32_t n = 0;
 
@@ -435,15 +448,15 @@ static void events(void)
     static char first[4096], second[4096];
     static camxpt_event got[32], again[32];
     camxpt x = CAMXPT_INIT, y = CAMXPT_INIT;
-    camxpt_command command = {0, 0, 0, 0, 0};
-    camxpt_completion done = {0, 0};
+    camxpt_command command = {0, 0, 0, 0, 0, NULL};
+    camxpt_completion done = {0, 0, NULL};
     size_t count = 0, part = 0, size = 0;
     uint32_t n = 0;
 
     DUE(camxpt_open(&x, two_adapters, 2, apart, 2, two_lanes, 2, &most), CAMXPT_OK);
     DUE(camxpt_open(&y, two_adapters, 2, apart, 2, two_lanes, 2, &most), CAMXPT_OK);
-    DUE(camxpt_submit(&x, 201, 1, 1033, 6, true, false, &n), CAMXPT_OK);
-    DUE(camxpt_submit(&x, 202, 0, 17, 5, false, true, &n), CAMXPT_OK);
+    DUE(camxpt_submit(&x, 201, 1, 1033, 6, true, false, NULL, &n), CAMXPT_OK);
+    DUE(camxpt_submit(&x, 202, 0, 17, 5, false, true, NULL, &n), CAMXPT_OK);
     DUE(camxpt_freeze_dev(&x, 1, 600), CAMXPT_OK);
     DUE(camxpt_release_dev(&x, 1, 600), CAMXPT_OK);
     DUE(camxpt_freeze_sim(&x, 1, 1), CAMXPT_OK);
@@ -496,15 +509,204 @@ static void events(void)
     HOLDS(blocks == 0);
 }
 
+/* What a device has, in the order of camxpt_device_counts. */
+static void device_has(camxpt *x, uint32_t device, const uint32_t *due, int line)
+{
+    camxpt_device_counts counts = {99, 99, 99, 99, 99, 99, 99};
+    const uint32_t *given = (const uint32_t *)&counts;
+
+    holds(camxpt_device_state(x, device, &counts) == CAMXPT_OK, line);
+    for (int k = 0; k < 7; k++)
+        holds(given[k] == due[k], line);
+}
+
+#define DEVICE_HAS(x, device, ...)                        \
+    do {                                                  \
+        static const uint32_t due_[7] = {__VA_ARGS__};    \
+        device_has((x), (device), due_, __LINE__);        \
+    } while (0)
+
+/* The case of a number, and its pointer. */
+static void case_is(camxpt *x, size_t number, uint32_t ccb, uint32_t class_, const void *user, int line)
+{
+    camxpt_case found = {99, 99, &checks};
+
+    holds(camxpt_case_at(x, number, &found) == CAMXPT_OK, line);
+    holds(found.ccb == ccb && found.class_ == class_ && found.user == user, line);
+}
+
+#define CASE_IS(x, number, ccb, class_, user) case_is((x), (number), (ccb), (class_), (user), __LINE__)
+
+/* A command is sent to the device, as this CCB and with this pointer. */
+static void sent_is(camxpt *x, uint32_t device, uint32_t ccb, const void *user, int line)
+{
+    camxpt_command command = {99, 99, 99, 99, 99, &checks};
+
+    holds(camxpt_send_next(x, 0, &command) == CAMXPT_OK, line);
+    holds(command.device == device && command.ccb == ccb && command.user == user, line);
+}
+
+#define SENT_IS(x, device, ccb, user) sent_is((x), (device), (ccb), (user), __LINE__)
+
+/* A completion of the CCB comes to this class, with this pointer. */
+static void done_is(camxpt *x, uint32_t ccb, uint8_t status, uint32_t class_, const void *user, int line)
+{
+    camxpt_completion done = {99, 99, &checks};
+
+    holds(camxpt_done(x, ccb, status, 0, NULL, 0, &done) == CAMXPT_OK, line);
+    holds(done.class_ == class_ && done.user == user, line);
+}
+
+#define DONE_IS(x, ccb, status, class_, user) done_is((x), (ccb), (status), (class_), (user), __LINE__)
+
+/* Pointers, cases and the counts of two disks, worked by hand over a round, a tick and two carries. */
+static void worked(void)
+{
+    static const uint32_t adapter[] = {8};
+    static const camxpt_device disks[] = {{0, 0, 0, 3}, {0, 1, 0, 2}};
+    static const camxpt_limits limits = {16, 8, 16, 64};
+    static char tags[6];
+    camxpt x = CAMXPT_INIT, y = CAMXPT_INIT;
+    camxpt_command command = {0, 0, 0, 0, 0, NULL};
+    camxpt_case found = {99, 99, &found};
+    camxpt_device_counts none = {99, 99, 99, 99, 99, 99, 99};
+    camxpt_counts counts = {0, 0, 0, 0, 0, 0, 0, 0};
+    uint32_t numbers[8], n = 0;
+    size_t count = 0;
+
+    DUE(camxpt_open(&x, adapter, 1, disks, 2, one_lane, 1, &limits), CAMXPT_OK);
+    DEVICE_HAS(&x, 0, 0, 0, 0, 3, 3, 0, 0);
+    DUE(camxpt_device_state(&x, 2, &none), CAMXPT_NO_DEVICE);
+    HOLDS(none.queued == 99 && none.errors == 99);
+    /* CCBs 0 to 3 are of disk 0. CCB 4 freezes disk 1 when it is sent, and has no pointer; CCB 5's failures don't freeze it. */
+    for (int k = 0; k < 4; k++)
+        DUE(camxpt_submit(&x, 1, 0, 1152, 3, false, false, &tags[k], &n), CAMXPT_OK);
+    DUE(camxpt_submit(&x, 1, 1, 1152, 3, true, false, NULL, &n), CAMXPT_OK);
+    DUE(camxpt_submit(&x, 1, 1, 1152, 3, false, true, &tags[5], &n), CAMXPT_OK);
+    DEVICE_HAS(&x, 0, 4, 0, 0, 3, 3, 0, 0);
+    DEVICE_HAS(&x, 1, 2, 0, 0, 2, 2, 0, 0);
+    SENT_IS(&x, 0, 0, &tags[0]);
+    SENT_IS(&x, 1, 4, NULL);
+    SENT_IS(&x, 0, 1, &tags[1]);
+    SENT_IS(&x, 0, 2, &tags[2]);
+    DUE(camxpt_send_next(&x, 0, &command), CAMXPT_IDLE_DEVICES_HELD);
+    DEVICE_HAS(&x, 0, 1, 0, 3, 3, 3, 0, 0);
+    DEVICE_HAS(&x, 1, 1, 0, 1, 2, 2, 1, 0);
+    DONE_IS(&x, 1, CAM_BUSY, CAMXPT_COUNTED_REQUEUE, &tags[1]);
+    DONE_IS(&x, 0, CAM_REQ_CMP_ERR, CAMXPT_OTHER, &tags[0]);
+    DONE_IS(&x, 4, CAM_BUSY, CAMXPT_COUNTED_REQUEUE, NULL);
+    CASE_IS(&x, 0, 1, CAMXPT_COUNTED_REQUEUE, &tags[1]);
+    CASE_IS(&x, 1, 0, CAMXPT_OTHER, &tags[0]);
+    CASE_IS(&x, 2, 4, CAMXPT_COUNTED_REQUEUE, NULL);
+    DUE(camxpt_case_at(&x, 3, &found), CAMXPT_NONE);
+    DUE(camxpt_case_at(&x, SIZE_MAX, &found), CAMXPT_NONE);
+    HOLDS(found.ccb == 99 && found.class_ == 99 && found.user == &found);
+    DUE(camxpt_next_case(&x, &found), CAMXPT_OK);
+    HOLDS(found.ccb == 1 && found.class_ == CAMXPT_COUNTED_REQUEUE && found.user == &tags[1]);
+    /* two freezes of disk 0 are by errors; disk 1 has one of each kind */
+    DEVICE_HAS(&x, 0, 1, 0, 1, 3, 3, 0, 2);
+    DEVICE_HAS(&x, 1, 1, 0, 0, 2, 2, 1, 1);
+    DUE(camxpt_adjust(&x, 0, 5), CAMXPT_OK);
+    DUE(camxpt_freeze_dev(&x, 0, 4), CAMXPT_OK);
+    DEVICE_HAS(&x, 0, 1, 0, 1, 3, 5, 4, 2);
+    DUE(camxpt_requeue(&x, 1), CAMXPT_OK);
+    DEVICE_HAS(&x, 0, 1, 1, 1, 3, 5, 4, 1);
+    CASE_IS(&x, 0, 0, CAMXPT_OTHER, &tags[0]);
+    CASE_IS(&x, 1, 4, CAMXPT_COUNTED_REQUEUE, NULL);
+    DUE(camxpt_case_at(&x, 2, &found), CAMXPT_NONE);
+    DUE(camxpt_look(&x, &counts), CAMXPT_OK);
+    HOLDS(counts.stays == 7 && counts.alive == 6 && counts.waiting == 3 && counts.in_flight == 1 && counts.cases == 2);
+    DUE(camxpt_finish(&x, 0), CAMXPT_OK);
+    DONE_IS(&x, 2, CAM_REQ_CMP, CAMXPT_COMPLETE, &tags[2]);
+    DUE(camxpt_requeue(&x, 4), CAMXPT_OK);
+    DEVICE_HAS(&x, 0, 1, 1, 0, 3, 5, 4, 0);
+    DEVICE_HAS(&x, 1, 1, 1, 0, 2, 2, 1, 0);
+    DUE(camxpt_look(&x, &counts), CAMXPT_OK);
+    HOLDS(counts.stays == 8 && counts.alive == 4 && counts.waiting == 4 && counts.in_flight == 0 && counts.cases == 0);
+    DUE(camxpt_tick(&x, &n), CAMXPT_OK);
+    DEVICE_HAS(&x, 0, 2, 0, 0, 5, 5, 4, 0);
+    DUE(camxpt_adjust(&x, 1, 1), CAMXPT_OK);
+    DEVICE_HAS(&x, 1, 2, 0, 0, 2, 1, 1, 0);
+    /* what came first goes first: CCBs 3 and 5, and then 1 and 4, which were sent again */
+    DUE(camxpt_carry(&x, &y, &limits, numbers, 8, &count), CAMXPT_OK);
+    HOLDS(count == 4 && numbers[0] == 3 && numbers[1] == 5 && numbers[2] == 1 && numbers[3] == 4);
+    DUE(camxpt_look(&y, &counts), CAMXPT_OK);
+    HOLDS(counts.stays == 4 && counts.alive == 4 && counts.waiting == 4);
+    DEVICE_HAS(&y, 0, 2, 0, 0, 5, 5, 4, 0);
+    DEVICE_HAS(&y, 1, 2, 0, 0, 1, 1, 1, 0);
+    DUE(camxpt_release_dev(&y, 0, 4), CAMXPT_OK);
+    SENT_IS(&y, 0, 0, &tags[3]);
+    SENT_IS(&y, 0, 2, &tags[1]);
+    DUE(camxpt_release_dev(&y, 1, 1), CAMXPT_OK);
+    SENT_IS(&y, 1, 1, &tags[5]);
+    DONE_IS(&y, 0, CAM_BUSY, CAMXPT_COUNTED_REQUEUE, &tags[3]);
+    CASE_IS(&y, 0, 0, CAMXPT_COUNTED_REQUEUE, &tags[3]);
+    DONE_IS(&y, 1, CAM_REQ_CMP, CAMXPT_COMPLETE, &tags[5]);
+    DONE_IS(&y, 2, CAM_REQ_CMP, CAMXPT_COMPLETE, &tags[1]);
+    DUE(camxpt_requeue(&y, 0), CAMXPT_OK);
+    /* the old one has its pointers still */
+    DUE(camxpt_release_dev(&x, 0, 4), CAMXPT_OK);
+    SENT_IS(&x, 0, 3, &tags[3]);
+    DUE(camxpt_close(&x), CAMXPT_OK);
+    DUE(camxpt_carry(&y, &x, &limits, numbers, 8, &count), CAMXPT_OK);
+    HOLDS(count == 2 && numbers[0] == 3 && numbers[1] == 0);
+    SENT_IS(&x, 0, 1, &tags[3]);
+    SENT_IS(&x, 1, 0, NULL);
+    DUE(camxpt_close(&x), CAMXPT_OK);
+    DUE(camxpt_close(&y), CAMXPT_OK);
+    HOLDS(blocks == 0);
+}
+
+/* What camxpt_take gives: the number of a submit, what a completion comes to, and nothing else. */
+static void takes(void)
+{
+    static char tag;
+    camxpt x = CAMXPT_INIT;
+    camxpt_completion done = {99, 99, &done};
+    camxpt_event event = event_of(CAMXPT_SUBMIT);
+    uint32_t n = 77;
+
+    DUE(open_small(&x, &most), CAMXPT_OK);
+    DUE(camxpt_submit(&x, 1, 1, 1152, 0, false, false, &tag, &n), CAMXPT_OK);
+    event.retries = 1;
+    DUE(camxpt_take(&x, &event, &n, &done), CAMXPT_OK);
+    HOLDS(n == 1 && done.class_ == 99);
+    DUE(camxpt_take(&x, &event, NULL, &done), CAMXPT_OK);
+    event.device = 2;
+    DUE(camxpt_take(&x, &event, &n, &done), CAMXPT_NO_DEVICE);
+    HOLDS(n == 1 && done.class_ == 99);
+    /* CCB 1 has no pointer, and CCB 0 has one */
+    SENT_IS(&x, 0, 1, NULL);
+    event = send_of(0, 0);
+    DUE(camxpt_take(&x, &event, &n, &done), CAMXPT_OK);
+    event = event_of(CAMXPT_DONE);
+    event.ccb = 1;
+    event.status = CAM_BUSY;
+    DUE(camxpt_take(&x, &event, &n, &done), CAMXPT_OK);
+    HOLDS(n == 1 && done.class_ == CAMXPT_COUNTED_REQUEUE && done.value == (CAM_BUSY | CAM_DEV_QFRZN) && done.user == NULL);
+    DUE(camxpt_take(&x, &event, &n, &done), CAMXPT_NOT_IN_FLIGHT);
+    HOLDS(done.class_ == CAMXPT_COUNTED_REQUEUE);
+    event.ccb = 0;
+    DUE(camxpt_take(&x, &event, NULL, &done), CAMXPT_OK);
+    HOLDS(done.class_ == CAMXPT_SPENT && done.user == &tag);
+    CASE_IS(&x, 0, 1, CAMXPT_COUNTED_REQUEUE, NULL);
+    CASE_IS(&x, 1, 0, CAMXPT_SPENT, &tag);
+    event = event_of(CAMXPT_FINISH);
+    DUE(camxpt_take(&x, &event, NULL, NULL), CAMXPT_OK);
+    HOLDS(n == 1 && done.class_ == CAMXPT_SPENT);
+    DUE(camxpt_close(&x), CAMXPT_OK);
+    HOLDS(blocks == 0);
+}
+
 /* What a carry is refused for, and what it gives. */
 static void carries(void)
 {
     static const camxpt_limits few_ccbs = {2, 512, 4096, 65535}, one_round = {1024, 1, 4096, 65535};
     static const camxpt_limits few_stays = {1024, 512, 2, 65535}, few_events = {1024, 512, 4096, 3}, none = {0, 1, 1, 1};
     camxpt x = CAMXPT_INIT, y = CAMXPT_INIT, copy;
-    camxpt_command command = {0, 0, 0, 0, 0};
-    camxpt_completion done = {0, 0};
-    camxpt_counts counts = {0, 0, 0, 0, 0, 0};
+    camxpt_command command = {0, 0, 0, 0, 0, NULL};
+    camxpt_completion done = {0, 0, NULL};
+    camxpt_counts counts = {0, 0, 0, 0, 0, 0, 0, 0};
     camxpt_event got[8];
     uint32_t numbers[4] = {9, 9, 9, 9}, n = 0;
     size_t count = 77;
@@ -521,7 +723,7 @@ static void carries(void)
     DUE(camxpt_carry(&x, &y, &none, numbers, 4, &count), CAMXPT_E_LIMIT);
     for (uint32_t disk = 0; disk < 2; disk++)
         DUE(submit(&x, disk, &n), CAMXPT_OK);
-    DUE(camxpt_submit(&x, 1, 1, 128, 3, false, true, &n), CAMXPT_OK);
+    DUE(camxpt_submit(&x, 1, 1, 128, 3, false, true, NULL, &n), CAMXPT_OK);
     DUE(submit(&x, 0, &n), CAMXPT_OK);
     DUE(camxpt_send_next(&x, 0, &command), CAMXPT_OK);
     DUE(camxpt_carry(&x, &y, &most, numbers, 4, &count), CAMXPT_IN_FLIGHT);
@@ -769,6 +971,8 @@ int main(void)
     refusals();
     sends();
     events();
+    worked();
+    takes();
     carries();
     wrong_recordings();
     recordings();

@@ -16,7 +16,7 @@ camxpt_code camxpt_raw_open_with(camxpt_raw *x, const camxpt_weight *weights, si
                                  const camxpt_limits *limits);
 camxpt_code camxpt_raw_close(camxpt_raw *x);
 camxpt_code camxpt_raw_submit(camxpt_raw *x, uint8_t driver, uint32_t device, uint32_t priority, uint32_t retries, bool qfreeze,
-                              bool qfrzdis, uint32_t *ccb);
+                              bool qfrzdis, uint64_t user, uint32_t *ccb);
 camxpt_code camxpt_raw_send_next(camxpt_raw *x, uint32_t lane, camxpt_command *command);
 camxpt_code camxpt_raw_done(camxpt_raw *x, uint32_t ccb, uint8_t status, uint8_t scsi, const uint8_t *sense, size_t sense_len,
                             camxpt_completion *done);
@@ -29,9 +29,10 @@ camxpt_code camxpt_raw_release_sim(camxpt_raw *x, uint32_t sim);
 camxpt_code camxpt_raw_adjust(camxpt_raw *x, uint32_t device, uint32_t openings);
 camxpt_code camxpt_raw_tick(camxpt_raw *x, uint32_t *round);
 camxpt_code camxpt_raw_has_head(camxpt_raw *x, uint32_t lane);
-camxpt_code camxpt_raw_next_case(camxpt_raw *x, camxpt_case *found);
+camxpt_code camxpt_raw_case_at(camxpt_raw *x, size_t number, camxpt_case *found);
 camxpt_code camxpt_raw_look(camxpt_raw *x, camxpt_counts *counts);
-camxpt_code camxpt_raw_take(camxpt_raw *x, const camxpt_event *event);
+camxpt_code camxpt_raw_device_state(camxpt_raw *x, uint32_t device, camxpt_device_counts *counts);
+camxpt_code camxpt_raw_take(camxpt_raw *x, const camxpt_event *event, uint32_t *ccb, camxpt_completion *done);
 camxpt_code camxpt_raw_refusal(camxpt_raw *x, const camxpt_event *event);
 camxpt_code camxpt_raw_events(camxpt_raw *x, uint32_t first, camxpt_event *events, size_t room, size_t *copied);
 camxpt_code camxpt_raw_trace(camxpt_raw *x, uint8_t *buffer, size_t room, size_t *needed);

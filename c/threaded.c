@@ -55,7 +55,7 @@ static uint8_t copy_block(const struct crew *crew, uint32_t block, uint32_t atte
 /* Hands in a result, and decides on it. */
 static void hand_in(struct crew *crew, uint32_t ccb, uint8_t status)
 {
-    camxpt_completion done = {0, 0};
+    camxpt_completion done = {0, 0, NULL};
 
     want(camxpt_done(&crew->x, ccb, status, 0, NULL, 0, &done), "done");
     if (CAMXPT_ASKS_REQUEUE(done.class_))
@@ -69,7 +69,7 @@ static void hand_in(struct crew *crew, uint32_t ccb, uint8_t status)
 /* The lane has nothing to send: opens the next round, or waits if something is in flight. */
 static void rest(struct crew *crew)
 {
-    camxpt_counts counts = {0, 0, 0, 0, 0, 0};
+    camxpt_counts counts = {0, 0, 0, 0, 0, 0, 0, 0};
     uint32_t round = 0;
 
     want(camxpt_look(&crew->x, &counts), "look");
@@ -85,7 +85,7 @@ static void *work(void *given)
 {
     const struct worker *worker = (const struct worker *)given;
     struct crew *crew = worker->crew;
-    camxpt_command command = {0, 0, 0, 0, 0};
+    camxpt_command command = {0, 0, 0, 0, 0, NULL};
 
     pthread_mutex_lock(&crew->lock);
     while (crew->left > 0) {
@@ -142,7 +142,7 @@ int main(int argc, char **argv)
         die("open", "no such file");
     want(camxpt_open(&crew.x, adapters, 1, disks, DISKS, lanes, WORKERS, &limits), "open");
     for (uint32_t block = 0, ccb = 0; block < BLOCKS; block++)
-        want(camxpt_submit(&crew.x, DRIVER, block % DISKS, NORMAL - block % 5, RETRIES, false, false, &ccb), "submit");
+        want(camxpt_submit(&crew.x, DRIVER, block % DISKS, NORMAL - block % 5, RETRIES, false, false, NULL, &ccb), "submit");
     for (uint32_t k = 0; k < WORKERS; k++) {
         workers[k].crew = &crew;
         workers[k].lane = k;

@@ -24,7 +24,6 @@
 
 #define MAX_DRIVERS 256
 #define MAX_CCBS 1024
-#define MAX_STAYS 4096
 #define MAX_ROUNDS 512
 /* From here on a transport takes nothing new: what is in flight, at most 255 commands, can still come to its end. */
 #define LATE_STAYS 3800
@@ -152,9 +151,8 @@ static pthread_mutex_t lock = PTHREAD_MUTEX_INITIALIZER;
 static pthread_cond_t room = PTHREAD_COND_INITIALIZER, renewed = PTHREAD_COND_INITIALIZER;
 /* The transport, and the handle of the one after it. */
 static camxpt handles[2] = { CAMXPT_INIT, CAMXPT_INIT }, *xpt = &handles[0];
-static struct request *by_ccb[MAX_STAYS];
 /* Round r of the transport is round skipped + r of all. Late are the requests that wait for a fresh transport. */
-static uint32_t skipped, stays, alive, late, served;
+static uint32_t skipped, alive, late, served;
 static bool is_renewed;
 static int disk = -1;
 
@@ -178,7 +176,7 @@ static void expect(camxpt_code code, const char *call)
 
 static camxpt_counts counts(void)
 {
-    camxpt_counts counts = { 0, 0, 0, 0, 0, 0 };
+    camxpt_counts counts = { 0, 0, 0, 0, 0, 0, 0, 0 };
     expect(camxpt_look(xpt, &counts), "camxpt_look");
     return counts;
 }
@@ -191,7 +189,8 @@ static uint32_t round_now(void)
 
 static bool is_late(void)
 {
-    return stays > LATE_STAYS || counts().length > LATE_EVENTS;
+    const camxpt_counts now = counts();
+    return now.stays > LATE_STAYS || now.length > LATE_EVENTS;
 }
 
 static const camxpt_limits limits = CAMXPT_MOST;
@@ -203,11 +202,10 @@ static void open_transport(void)
     expect(camxpt_open(xpt, adapters, 1, devices, 1, lanes, 1, &limits), "camxpt_open");
 }
 
-/* Opens the next round in a fresh transport, with what waits. */
+/* Opens the next round in a fresh transport, with what waits. A request's CCB has another number there, and still its pointer. */
 static void renew(void)
 {
     static uint32_t numbers[MAX_CCBS];
-    static struct request *old[MAX_STAYS];
     camxpt *fresh = xpt == &handles[0] ? &handles[1] : &handles[0];
     size_t count = 0;
     /* The fresh one's round 2 comes after this one's last. */
@@ -215,12 +213,6 @@ static void renew(void)
     expect(camxpt_carry(xpt, fresh, &limits, numbers, MAX_CCBS, &count), "camxpt_carry");
     expect(camxpt_close(xpt), "camxpt_close");
     xpt = fresh;
-    memcpy(old, by_ccb, sizeof old);
-    for (uint32_t ccb = 0; ccb < count; ccb++) {
-        by_ccb[ccb] = old[numbers[ccb]];
-        by_ccb[ccb]->ccb = ccb;
-    }
-    stays = (uint32_t)count;
     is_renewed = true;
     pthread_cond_broadcast(&renewed);
 }
@@ -229,10 +221,11 @@ static void renew(void)
 static void pump(void)
 {
     for (;;) {
-        camxpt_command command = { 0, 0, 0, 0, 0 };
+        camxpt_command command = { 0, 0, 0, 0, 0, NULL };
         uint32_t round = 0;
         while (!is_late() && camxpt_send_next(xpt, 0, &command) == CAMXPT_OK) {
-            struct request *request = by_ccb[command.ccb];
+            struct request *request = command.user;
+            request->ccb = command.ccb;
             request->is_sent = true;
             request->sent = round_now();
             pthread_cond_signal(&request->turn);
@@ -272,13 +265,12 @@ enum outcome { AGAIN, COMPLETE, FAILED };
 /* Takes a result: whether the request was put into the queue again, has completed or has failed. */
 static enum outcome done(struct request *request, uint8_t status)
 {
-    camxpt_completion completion = { 0, 0 };
+    camxpt_completion completion = { 0, 0, NULL };
     uint32_t round = round_now();
     expect(camxpt_done(xpt, request->ccb, status, 0, NULL, 0, &completion), "camxpt_done");
     if (CAMXPT_ASKS_REQUEUE(completion.class_)) {
         expect(camxpt_requeue(xpt, request->ccb), "camxpt_requeue");
         record(request, round);
-        stays++;
         request->arrival = round + 1;
         request->is_sent = false;
         return AGAIN;
@@ -343,9 +335,8 @@ static void enter(struct request *request)
         late--;
     }
     uint32_t priority = drivers[request->driver].priority;
-    expect(camxpt_submit(xpt, (uint8_t)request->driver, 0, priority, RETRIES, false, false, &request->ccb), "camxpt_submit");
-    by_ccb[request->ccb] = request;
-    stays++;
+    expect(camxpt_submit(xpt, (uint8_t)request->driver, 0, priority, RETRIES, false, false, request, &request->ccb),
+           "camxpt_submit");
     pump();
 }
 

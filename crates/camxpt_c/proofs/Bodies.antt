@@ -26,11 +26,11 @@ use Rattle.std.specs.contracts.alloc.Global as heap
 use Rattle.std.proofs.alloc.Global.TheLaws as heap_laws
 use Rattle.std.specs.contracts.impls.GlobalAllocator.TheImpl.{ghosts}
 use Rattle.camxpt_c.proofs.RawBoxes.{two}
-use Rattle.xpt_state.specs.contracts.xpt.Xpt as xpt
+use Rattle.camxpt_c.specs.contracts.port.Port as port
 use Rattle.camxpt_c.specs.Held.{held}
 use Rattle.camxpt_c.specs.contracts.body.Body as body
 
--- the allocator, a transport and a body, as types
+-- the allocator, a port and a body, as types
 abbrev pub Z : RattleType
 Z = heap.the_row
 
@@ -38,7 +38,7 @@ abbrev pub LZ : Laws Z
 LZ = heap_laws.the_row_laws
 
 abbrev pub R : RattleType
-R = xpt.the_row
+R = port.the_row
 
 abbrev pub B : RattleType
 B = body.the_row
@@ -52,7 +52,7 @@ abbrev heaped : Al
 heaped = record { row = Z; laws = LZ; g = ghosts; d = impl [] tnil dnil; drops = impl [] tnil dnil }
 
 module _ {M : Type 1} {𝓤 : Ura M} {𝓛 : Logic 𝓤} {K : Type 0} {Γ : List (Item 𝓤)} {G : Goal 𝓤 𝓛.H} where
-  -- What a body owns that has a transport: two words, the first a pointer into a block.
+  -- What a body owns that has a port: two words, the first a pointer into a block.
   pub body_out : K → (d : B.Denot) (words : List Val) (x : R.Denot) → d.kept ≡ Some x
       → ((b o : ℕ) (a : Val) → d.at ≡ block_ptr b o → words ≡ two (vptr b o) a ∷ [] → Good (layout Z) a
       → Seq K 𝓛 (‵ (box_owns (ghosts.dealloc_token d.alloc) R (block_ptr b o) x) ∷ ‵ (Z.own_val d.alloc (a ∷ [])) ∷ Γ) G)

@@ -1,4 +1,10 @@
 pub mod FaultLemmas
+pub mod HandLemmas
+pub mod LawLemmas
+pub mod PortLemmas
+pub mod TallyLemmas
+pub mod TotalLemmas
+pub mod CaseLemmas
 pub mod RecordingLemmas
 pub mod SenseLemmas
 pub mod Bodies

@@ -8,6 +8,7 @@ use Rattle.xpt_carry.specs.Carry.{carried, carrying, carry_fault}
 use Rattle.xpt_carry.specs.declared.fault.CarryFault.{CarryFault}
 use Rattle.xpt_carry.specs.declared.fault.CarryFault.TheVariants as faults
 use Rattle.xpt_core.specs.Transport.{Transport}
+use Rattle.camxpt_c.specs.Attached.{Attached, user_of}
 use Rattle.camxpt_c.specs.Codes.{code_of}
 use Rattle.camxpt_c.specs.Openings.{limits_in}
 use Rattle.camxpt_c.specs.Tracing.{IsCopy}
@@ -27,9 +28,13 @@ gone_on t bounds = record { config = t.config; rules = rules_of bounds; events =
 abbrev pub old_numbers : Transport → List ℕ
 old_numbers t = map (λ (p : Passage). p.ccb) (carried t.events)
 
--- what a call gives: the transport of the other handle, numbers, and how many they are
+-- the fresh transport, with the pointers that its CCBs had in the old one
+abbrev pub port_gone_on : Attached → Bounds → Attached
+port_gone_on p bounds = record { xpt = gone_on p.xpt bounds; users = map (user_of p) (old_numbers p.xpt) }
+
+-- what a call gives: what the other handle has, numbers, and how many they are
 pub record CarryGiven : Type 0 where
-  pub to : Option Transport
+  pub to : Option Attached
   pub numbers : List ℕ
   pub count : ℕ
 
@@ -38,25 +43,25 @@ abbrev pub IsUncarried : Option CarryFault → ℤ → Type 0
 IsUncarried known code = (code ≡ E_MEMORY) ⊎ MatchOption known ⊥ (λ fault. code ≡ carry_code fault)
 
 -- How many numbers there are is given. They are copied and the fresh transport is there, if there is room for them.
-abbrev pub IsCarried : Transport → Bounds → CarryGiven → CarryGiven → ℤ → Type 0
-IsCarried t within old new code =
-    (new.count ≡ length (old_numbers t)) × IsCopy (old_numbers t) old.numbers new.numbers code
-    × (((code ≡ OK) × (new.to ≡ Some (gone_on t within))) ⊎ ((code ≡ E_SPACE) × (new.to ≡ old.to)))
+abbrev pub IsCarried : Attached → Bounds → CarryGiven → CarryGiven → ℤ → Type 0
+IsCarried p within old new code =
+    (new.count ≡ length (old_numbers p.xpt)) × IsCopy (old_numbers p.xpt) old.numbers new.numbers code
+    × (((code ≡ OK) × (new.to ≡ Some (port_gone_on p within))) ⊎ ((code ≡ E_SPACE) × (new.to ≡ old.to)))
 
 -- What waits is carried over to a transport of these limits, or the fault is reported, and nothing is given.
-abbrev pub IsCarryWithin : Transport → Bounds → CarryGiven → CarryGiven → ℤ → Type 0
-IsCarryWithin t within old new code =
-    let known = carry_fault (rules_of within) t.config t.events in
-    ((known ≡ None) × IsCarried t within old new code) ⊎ (IsUncarried known code × (new ≡ old))
+abbrev pub IsCarryWithin : Attached → Bounds → CarryGiven → CarryGiven → ℤ → Type 0
+IsCarryWithin p within old new code =
+    let known = carry_fault (rules_of within) p.xpt.config p.xpt.events in
+    ((known ≡ None) × IsCarried p within old new code) ⊎ (IsUncarried known code × (new ≡ old))
 
 -- The other handle has to be closed, and each limit in its range.
-abbrev pub IsCarryFrom : Transport → Bounds → CarryGiven → CarryGiven → ℤ → Type 0
-IsCarryFrom t bounds old new code =
+abbrev pub IsCarryFrom : Attached → Bounds → CarryGiven → CarryGiven → ℤ → Type 0
+IsCarryFrom p bounds old new code =
     MatchOption old.to
-    (MatchOption (limits_in bounds) ((code ≡ E_LIMIT) × (new ≡ old)) (λ within. IsCarryWithin t within old new code))
+    (MatchOption (limits_in bounds) ((code ≡ E_LIMIT) × (new ≡ old)) (λ within. IsCarryWithin p within old new code))
     (λ _. (code ≡ E_OPEN) × (new ≡ old))
 
 -- The first handle has to be open.
-abbrev pub IsCarry : Option Transport → Bounds → CarryGiven → CarryGiven → ℤ → Type 0
+abbrev pub IsCarry : Option Attached → Bounds → CarryGiven → CarryGiven → ℤ → Type 0
 IsCarry from bounds old new code =
-    MatchOption from ((code ≡ E_CLOSED) × (new ≡ old)) (λ t. IsCarryFrom t bounds old new code)
+    MatchOption from ((code ≡ E_CLOSED) × (new ≡ old)) (λ p. IsCarryFrom p bounds old new code)

@@ -1,3 +1,5 @@
+pub mod Attached
+pub mod PortSound
 pub mod Carries
 pub mod Codes
 pub mod Configs
@@ -9,4 +11,7 @@ pub mod Recordings
 pub mod CallTerms
 pub mod Shapes
 pub mod Tracing
+pub mod Tally
+pub mod Tallies
 pub mod Held
+pub mod Laws

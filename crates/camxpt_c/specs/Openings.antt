@@ -6,6 +6,7 @@ use Rattle.cam_types.specs.declared.config.ConfigError.{ConfigError}
 use Rattle.cam_types.specs.declared.config.ConfigError.TheVariants as errors
 use Rattle.event_rules.specs.Legal.{rules_of}
 use Rattle.xpt_core.specs.Transport.{Transport}
+use Rattle.camxpt_c.specs.Attached.{Attached}
 use Rattle.camxpt_c.specs.Codes.{fault_code}
 use Rattle.camxpt_c.specs.declared.codes.TheConstants.{OK, E_OPEN, E_MEMORY, E_LIMIT}
 
@@ -30,14 +31,18 @@ abbrev pub IsConfigOf : Topology → Result Topology ℤ → Type 0
 IsConfigOf c (Ok made) = (config_fault c ≡ None) × (made ≡ c)
 IsConfigOf c (Err code) = IsFailure c code
 
+-- the same without a pointer
+abbrev pub opened_port : Topology → Bounds → Attached
+opened_port c bounds = record { xpt = opened c bounds; users = [] }
+
 -- the transport is there, or the handle stays closed
-abbrev pub IsOpened : Topology → Bounds → Option Transport → ℤ → Type 0
+abbrev pub IsOpened : Topology → Bounds → Option Attached → ℤ → Type 0
 IsOpened c bounds new code =
-    ((code ≡ OK) × (config_fault c ≡ None) × (new ≡ Some (opened c bounds))) ⊎ (IsFailure c code × (new ≡ None))
+    ((code ≡ OK) × (config_fault c ≡ None) × (new ≡ Some (opened_port c bounds))) ⊎ (IsFailure c code × (new ≡ None))
 
 -- An open handle stays as it is. A closed one is opened, if each limit is in its range.
-abbrev pub IsOpening : Topology → Bounds → Option Transport → Option Transport → ℤ → Type 0
+abbrev pub IsOpening : Topology → Bounds → Option Attached → Option Attached → ℤ → Type 0
 IsOpening c bounds old new code =
     MatchOption old
     (MatchOption (limits_in bounds) ((code ≡ E_LIMIT) × (new ≡ None)) (λ within. IsOpened c within new code))
-    (λ t. (code ≡ E_OPEN) × (new ≡ Some t))
+    (λ p. (code ≡ E_OPEN) × (new ≡ Some p))

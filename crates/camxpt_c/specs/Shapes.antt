@@ -1,11 +1,13 @@
 -- what the structs of C's say
-use Rattle.std.specs.Prelude.{◌≡◌}
+use Rattle.std.specs.Prelude.{ℕ, ◌≡◌}
 use Rattle.cam_types.specs.declared.command.Command.{Command}
 use Rattle.camxpt_c.specs.Codes.{class_code}
 use Rattle.camxpt_c.specs.declared.shapes.CamxptCommand.{CamxptCommand}
 use Rattle.camxpt_c.specs.declared.shapes.CamxptDone.{CamxptDone}
 use Rattle.camxpt_c.specs.declared.shapes.CamxptCase.{CamxptCase}
 use Rattle.camxpt_c.specs.declared.shapes.CamxptLook.{CamxptLook}
+use Rattle.camxpt_c.specs.declared.shapes.CamxptDeviceCounts.{CamxptDeviceCounts}
+use Rattle.camxpt_c.specs.declared.tally.Tally.{Tally}
 use Rattle.xpt_state.specs.declared.done.Done as done
 use Rattle.xpt_state.specs.declared.look.Case as case
 use Rattle.xpt_state.specs.declared.look.Look as look
@@ -14,16 +16,28 @@ use Rattle.xpt_state.specs.declared.look.Look as look
 abbrev pub command_of : CamxptCommand → Command
 command_of c = record { ccb = c.ccb; attempt = c.attempt; driver = c.driver; device = c.device; priority = c.priority }
 
--- what a completion comes to
-abbrev pub IsDone : done.Done → CamxptDone → Type 0
-IsDone d shape = (shape.class ≡ class_code d.class) × (shape.value ≡ d.value)
+-- what a completion comes to, and its CCB's pointer
+abbrev pub IsDone : done.Done → ℕ → CamxptDone → Type 0
+IsDone d user shape = (shape.class ≡ class_code d.class) × (shape.value ≡ d.value) × (shape.user ≡ user)
 
--- the CCB that waits for a decision
-abbrev pub IsCase : case.Case → CamxptCase → Type 0
-IsCase c shape = (shape.ccb ≡ c.ccb) × (shape.class ≡ class_code c.class)
+-- the CCB that waits for a decision, and its pointer
+abbrev pub IsCase : case.Case → ℕ → CamxptCase → Type 0
+IsCase c user shape = (shape.ccb ≡ c.ccb) × (shape.class ≡ class_code c.class) × (shape.user ≡ user)
 
--- all counts
+-- all counts of a transport
 abbrev pub IsLook : look.Look → CamxptLook → Type 0
 IsLook l shape =
     (shape.length ≡ l.length) × (shape.round ≡ l.round) × (shape.in_flight ≡ l.in_flight) × (shape.cases ≡ l.cases)
     × (shape.waiting ≡ l.waiting) × (shape.heads ≡ l.heads)
+
+-- the counts of a device
+abbrev pub device_counts_of : Tally → CamxptDeviceCounts
+device_counts_of t = record {
+  queued = t.queued;
+  requeued = t.requeued;
+  in_flight = t.in_flight;
+  openings = t.openings;
+  next_openings = t.next_openings;
+  callers = t.callers;
+  errors = t.errors;
+}

@@ -1,40 +1,40 @@
-//! A boxed transport as a pointer whose type says nothing, or none.
+//! A boxed port as a pointer whose type says nothing, or none.
 
 ghost use Rattle.std.specs.Prelude.{◌≡◌, Option, None, Some, IsTrue, is_some};
-ghost use Rattle.xpt_core.specs.Transport.{Transport};
+ghost use Rattle.camxpt_c.specs.Attached.{Attached};
 
+use crate::port::Port;
 use crate::raw_box::RawBox;
 use std::alloc::Global;
 use std::marker::Model;
-use xpt_state::Xpt;
 
-/// A transport in a box, by the box's pointer; or none, by a null pointer.
+/// A port in a box, by the box's pointer; or none, by a null pointer.
 #[repr(C)]
 #[derive(Drop)]
 pub struct Body {
     at: *mut (),
     alloc: Global,
-    /// The transport that is there.
-    pub ghost kept: { Option Transport },
+    /// What is there.
+    pub ghost kept: { Option Attached },
 }
 
 impl Model for Body {
     ghost use Rattle.std.specs.contracts.impls.GlobalAllocator.TheImpl.{ghosts};
-    ghost use Rattle.xpt_state.specs.contracts.xpt.Xpt.{the_row};
+    ghost use Rattle.camxpt_c.specs.contracts.port.Port.{the_row};
     ghost use Rattle.camxpt_c.specs.Held.{held};
 
     ghost also_owns = { λ body. held (ghosts.dealloc_token body.alloc) the_row body.at body.kept };
 }
 
 impl Body {
-    /// The transport's box as its pointer.
-    pub fn of(xpt: Box<Xpt>) -> Body
-        ensures { result.kept ≡ Some xpt.value }
+    /// The port's box as its pointer.
+    pub fn of(port: Box<Port>) -> Body
+        ensures { result.kept ≡ Some port.value }
     {
-        Body::pack(RawBox::from_box(xpt))
+        Body::pack(RawBox::from_box(port))
     }
 
-    /// No transport.
+    /// No port.
     pub fn none(alloc: Global) -> Body
         ensures { result.kept ≡ None }
     {
@@ -45,14 +45,14 @@ impl Body {
     }
 
     /// The box again.
-    pub fn into_box(self) -> Box<Xpt>
+    pub fn into_box(self) -> Box<Port>
         requires { IsTrue (is_some self.kept) }
         ensures { self.kept ≡ Some result.value }
     {
         self.unpack().into_box()
     }
 
-    fn pack(raw: RawBox<Xpt, Global>) -> Body
+    fn pack(raw: RawBox<Port, Global>) -> Body
         ensures { result.kept ≡ Some raw.value }
     {
         let RawBox { at, alloc } = raw;
@@ -62,17 +62,17 @@ impl Body {
         }
     }
 
-    fn unpack(self) -> RawBox<Xpt, Global>
+    fn unpack(self) -> RawBox<Port, Global>
         requires { IsTrue (is_some self.kept) }
         ensures { self.kept ≡ Some result.value }
     {
         let Body { at, alloc } = self;
         RawBox {
-            at: at as *mut Xpt,
+            at: at as *mut Port,
             alloc,
         }
     }
 }
 
-// The transport may be another thread's, as one in a `Box` may.
+// The port may be another thread's, as one in a `Box` may.
 unsafe impl Send for Body {}

@@ -9,25 +9,25 @@ use crate::handle::CamXpt;
 use event_rules::Event;
 use std::alloc::Global;
 
-/// Takes an event of any kind.
+/// Takes an event of any kind, without a pointer.
 pub(crate) fn push(alloc: Global, handle: &mut CamXpt, event: Event) -> i32
-    ensures { IsCall event handle.old.body.kept handle.new.body.kept result }
+    ensures { IsCall event 0 handle.old.body.kept handle.new.body.kept result }
 {
-    let Some(mut xpt) = handle.take(alloc) else {
+    let Some(mut port) = handle.take(alloc) else {
         return E_CLOSED;
     };
-    let code = match xpt.take(event) {
+    let code = match port.take(event, 0) {
         Ok(_) => OK,
         Err(why) => code_of(why),
     };
-    handle.put(xpt);
+    handle.put(port);
     code
 }
 
 /// Puts a CCB that failed back into its device's queue.
 #[unsafe(no_mangle)]
 pub extern "C" fn camxpt_raw_requeue(alloc: Global, handle: &mut CamXpt, ccb: u32) -> i32
-    ensures { IsCall (Requeue ccb) handle.old.body.kept handle.new.body.kept result }
+    ensures { IsCall (Requeue ccb) 0 handle.old.body.kept handle.new.body.kept result }
 {
     push(alloc, handle, Event::Requeue { ccb })
 }
@@ -35,7 +35,7 @@ pub extern "C" fn camxpt_raw_requeue(alloc: Global, handle: &mut CamXpt, ccb: u3
 /// Gives a CCB that failed back to its driver.
 #[unsafe(no_mangle)]
 pub extern "C" fn camxpt_raw_finish(alloc: Global, handle: &mut CamXpt, ccb: u32) -> i32
-    ensures { IsCall (Finish ccb) handle.old.body.kept handle.new.body.kept result }
+    ensures { IsCall (Finish ccb) 0 handle.old.body.kept handle.new.body.kept result }
 {
     push(alloc, handle, Event::Finish { ccb })
 }
@@ -48,7 +48,7 @@ pub extern "C" fn camxpt_raw_freeze_dev(
     device: u32,
     count: u32,
 ) -> i32
-    ensures { IsCall (FreezeDev device count) handle.old.body.kept handle.new.body.kept result }
+    ensures { IsCall (FreezeDev device count) 0 handle.old.body.kept handle.new.body.kept result }
 {
     push(alloc, handle, Event::FreezeDev { device, count })
 }
@@ -61,7 +61,7 @@ pub extern "C" fn camxpt_raw_release_dev(
     device: u32,
     count: u32,
 ) -> i32
-    ensures { IsCall (ReleaseDev device count) handle.old.body.kept handle.new.body.kept result }
+    ensures { IsCall (ReleaseDev device count) 0 handle.old.body.kept handle.new.body.kept result }
 {
     push(alloc, handle, Event::ReleaseDev { device, count })
 }
@@ -74,7 +74,7 @@ pub extern "C" fn camxpt_raw_freeze_sim(
     sim: u32,
     count: u32,
 ) -> i32
-    ensures { IsCall (FreezeSim sim count) handle.old.body.kept handle.new.body.kept result }
+    ensures { IsCall (FreezeSim sim count) 0 handle.old.body.kept handle.new.body.kept result }
 {
     push(alloc, handle, Event::FreezeSim { sim, count })
 }
@@ -82,7 +82,7 @@ pub extern "C" fn camxpt_raw_freeze_sim(
 /// Takes one freeze of the adapter away.
 #[unsafe(no_mangle)]
 pub extern "C" fn camxpt_raw_release_sim(alloc: Global, handle: &mut CamXpt, sim: u32) -> i32
-    ensures { IsCall (ReleaseSim sim) handle.old.body.kept handle.new.body.kept result }
+    ensures { IsCall (ReleaseSim sim) 0 handle.old.body.kept handle.new.body.kept result }
 {
     push(alloc, handle, Event::ReleaseSim { sim })
 }
@@ -95,7 +95,7 @@ pub extern "C" fn camxpt_raw_adjust(
     device: u32,
     openings: u32,
 ) -> i32
-    ensures { IsCall (Adjust device openings) handle.old.body.kept handle.new.body.kept result }
+    ensures { IsCall (Adjust device openings) 0 handle.old.body.kept handle.new.body.kept result }
 {
     push(alloc, handle, Event::Adjust { device, openings })
 }

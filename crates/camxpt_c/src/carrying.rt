@@ -1,9 +1,10 @@
 //! Carries what waits over to a fresh transport.
 
-ghost use Rattle.std.specs.Prelude.{◌≡◌, ◌⊎◌, None, Some, length, OnOk, IfOk, IfErr};
+ghost use Rattle.std.specs.Prelude.{◌≡◌, ◌⊎◌, None, Some, length, map, OnOk, IfOk, IfErr};
 ghost use Rattle.event_rules.specs.Legal.{rules_of};
 ghost use Rattle.xpt_carry.specs.Carry.{carry_fault};
-ghost use Rattle.camxpt_c.specs.Carries.{carry_code, gone_on, old_numbers, IsCarry, IsCarryFrom, IsUncarried};
+ghost use Rattle.camxpt_c.specs.Attached.{user_of};
+ghost use Rattle.camxpt_c.specs.Carries.{carry_code, gone_on, old_numbers, port_gone_on, IsCarry, IsCarryFrom, IsUncarried};
 ghost use Rattle.camxpt_c.specs.Configs.{bounds_of};
 ghost use Rattle.camxpt_c.specs.Tracing.{IsCopy};
 ghost use Rattle.camxpt_c.specs.declared.codes.TheConstants.{OK, E_SPACE, E_MEMORY};
@@ -11,15 +12,16 @@ ghost use Rattle.camxpt_c.specs.declared.codes.TheConstants.{OK, E_SPACE, E_MEMO
 use crate::codes::{E_CLOSED, E_LIMIT, E_MEMORY, E_OPEN, E_SPACE, OK, UNDECIDED, code_of};
 use crate::handle::CamXpt;
 use crate::opening::limits_in;
+use crate::port::Port;
 use crate::shapes::CamxptLimits;
 use cam_types::Limits;
 use event_rules::Refusal;
-use std::alloc::Global;
+use std::alloc::{AllocError, Global};
 use xpt_carry::{Carried, CarryFault, carry};
-use xpt_state::Xpt;
 
 /// Opens the closed handle `to` as a fresh transport of these limits with what waits in `from`, which stays as it is, and gives
-/// the numbers that its CCBs have there, and how many these are. If there is no room for them, `to` stays closed.
+/// the numbers that its CCBs have there, and how many these are. Each CCB keeps its pointer. If there is no room for the numbers,
+/// `to` stays closed.
 #[unsafe(no_mangle)]
 pub extern "C" fn camxpt_raw_carry(
     alloc: Global,
@@ -35,24 +37,24 @@ pub extern "C" fn camxpt_raw_carry(
         (record { to = to.new.body.kept; numbers = numbers.new; count = count.new })
         result }
 {
-    let Some(xpt) = from.take(alloc) else {
+    let Some(port) = from.take(alloc) else {
         return E_CLOSED;
     };
-    let code = carry_to(alloc, &xpt, to, limits, numbers, count);
-    from.put(xpt);
+    let code = carry_to(alloc, &port, to, limits, numbers, count);
+    from.put(port);
     code
 }
 
 // The same from an open handle's transport.
 fn carry_to(
     alloc: Global,
-    xpt: &Xpt,
+    port: &Port,
     to: &mut CamXpt,
     limits: &CamxptLimits,
     numbers: &mut [u32],
     count: &mut usize,
 ) -> i32
-    ensures { IsCarryFrom xpt.now (bounds_of limits.now)
+    ensures { IsCarryFrom port.now (bounds_of limits.now)
         (record { to = to.old.body.kept; numbers = numbers.old; count = count.old })
         (record { to = to.new.body.kept; numbers = numbers.new; count = count.new })
         result }
@@ -64,41 +66,64 @@ fn carry_to(
     let Some(limits) = limits_in(limits) else {
         return E_LIMIT;
     };
-    match fresh(alloc, xpt, limits) {
+    match fresh(alloc, port, limits) {
         Ok(made) => keep(to, made, numbers, count),
         Err(code) => code,
     }
 }
 
-// A fresh transport in a box, and the numbers that its CCBs had.
+// A fresh port in a box, and the numbers that its CCBs had.
 #[derive(Drop)]
 struct Made {
-    xpt: Box<Xpt>,
+    port: Box<Port>,
     numbers: Vec<u32>,
 }
 
-// What waits in a transport, carried over to a fresh one.
-fn fresh(alloc: Global, xpt: &Xpt, limits: Limits) -> Result<Made, i32>
-    ensures xpt { IfOk result (λ made. made.xpt.value ≡ gone_on xpt.now limits) }
-    ensures numbers { IfOk result (λ made. made.numbers.items ≡ old_numbers xpt.now) }
-    ensures ok { OnOk result (carry_fault (rules_of limits) xpt.now.config xpt.now.events ≡ None) }
-    ensures err { IfErr result (λ code. IsUncarried (carry_fault (rules_of limits) xpt.now.config xpt.now.events) code) }
+// What waits in a transport, carried over to a fresh one with the pointers of its CCBs.
+fn fresh(alloc: Global, port: &Port, limits: Limits) -> Result<Made, i32>
+    ensures port { IfOk result (λ made. made.port.value ≡ port_gone_on port.now limits) }
+    ensures numbers { IfOk result (λ made. made.numbers.items ≡ old_numbers port.now.xpt) }
+    ensures ok { OnOk result (carry_fault (rules_of limits) port.now.xpt.config port.now.xpt.events ≡ None) }
+    ensures err { IfErr result (λ code. IsUncarried (carry_fault (rules_of limits) port.now.xpt.config port.now.xpt.events) code) }
 {
-    match carry(alloc, xpt, limits) {
-        Ok(carried) => boxed(alloc, carried),
+    match carry(alloc, port.xpt(), limits) {
+        Ok(carried) => match with_users(alloc, port, limits, carried) {
+            Ok(made) => Ok(made),
+            Err(_) => Err(E_MEMORY),
+        },
         Err(fault) => Err(carry_code(fault)),
     }
 }
 
-fn boxed(alloc: Global, carried: Carried) -> Result<Made, i32>
-    ensures xpt { IfOk result (λ made. made.xpt.value ≡ carried.xpt) }
+// What was carried over from the port's transport, with the pointers that its CCBs had there.
+fn with_users(
+    alloc: Global,
+    from: &Port,
+    limits: Limits,
+    carried: Carried,
+) -> Result<Made, AllocError>
+    requires xpt { carried.xpt ≡ gone_on from.now.xpt limits }
+    requires numbers { carried.numbers.items ≡ old_numbers from.now.xpt }
+    ensures port { IfOk result (λ made. made.port.value ≡ port_gone_on from.now limits) }
     ensures numbers { IfOk result (λ made. made.numbers.items ≡ carried.numbers.items) }
-    ensures err { IfErr result (λ code. code ≡ E_MEMORY) }
 {
     let Carried { xpt, numbers } = carried;
-    match Box::new(alloc, xpt) {
-        Ok(xpt) => Ok(Made { xpt, numbers }),
-        Err(_) => Err(E_MEMORY),
+    let mut port = Port::again(alloc, &xpt, limits)?;
+    let _many = port.user_count();
+    hand_on(from, &mut port, &numbers);
+    Ok(Made {
+        port: Box::new(alloc, port)?,
+        numbers,
+    })
+}
+
+// Gives each CCB the pointer that the CCB of its number among these has in the other port.
+fn hand_on(from: &Port, to: &mut Port, numbers: &[u32])
+    requires { length numbers.now ≡ length to.old.users }
+    ensures { to.new ≡ record to.old { users = map (user_of from.now) numbers.now } }
+{
+    for (ccb, number) in numbers.iter().enumerate() {
+        to.set_user(ccb, from.user(*number));
     }
 }
 
@@ -114,18 +139,18 @@ fn carry_code(fault: CarryFault) -> i32
     }
 }
 
-// Puts the fresh transport into the handle, if there is room for the numbers.
+// Puts the fresh port into the handle, if there is room for the numbers.
 fn keep(to: &mut CamXpt, made: Made, numbers: &mut [u32], count: &mut usize) -> i32
     ensures count { count.new ≡ length made.numbers.items }
     ensures numbers { IsCopy made.numbers.items numbers.old numbers.new result }
-    ensures to { ((result ≡ OK) × (to.new.body.kept ≡ Some made.xpt.value)) ⊎ ((result ≡ E_SPACE) × (to.new.body.kept ≡ to.old.body.kept)) }
+    ensures to { ((result ≡ OK) × (to.new.body.kept ≡ Some made.port.value)) ⊎ ((result ≡ E_SPACE) × (to.new.body.kept ≡ to.old.body.kept)) }
 {
-    let Made { xpt, numbers: old } = made;
+    let Made { port, numbers: old } = made;
     *count = old.len();
     if old.len() > numbers.len() {
         return E_SPACE;
     }
     numbers[..old.len()].copy_from_slice(&old);
-    to.put(xpt);
+    to.put(port);
     OK
 }

@@ -4,9 +4,9 @@ ghost use Rattle.std.specs.Prelude.{◌≡◌, None, Some, is_some, ◌==◌, Ma
 ghost use Rattle.camxpt_c.specs.declared.handle.TheConstants.{OPEN};
 
 use crate::body::Body;
+use crate::port::Port;
 use std::alloc::Global;
 use std::mem::replace;
-use xpt_state::Xpt;
 
 /// What `state` is if the transport is open. With any other number it is closed.
 pub const OPEN: u32 = 0x5854_5043;
@@ -32,19 +32,19 @@ impl CamXpt {
     }
 
     /// An open one.
-    pub fn opened(xpt: Box<Xpt>) -> CamXpt
-        ensures { result.body.kept ≡ Some xpt.value }
+    pub fn opened(port: Box<Port>) -> CamXpt
+        ensures { result.body.kept ≡ Some port.value }
     {
         CamXpt {
-            body: Body::of(xpt),
+            body: Body::of(port),
             state: OPEN,
         }
     }
 
     /// Takes the transport out, if the handle is open. Then it is closed.
-    pub fn take(&mut self, alloc: Global) -> Option<Box<Xpt>>
+    pub fn take(&mut self, alloc: Global) -> Option<Box<Port>>
         ensures closed { self.new.body.kept ≡ None }
-        ensures value { MatchOption result (self.old.body.kept ≡ None) (λ xpt. self.old.body.kept ≡ Some xpt.value) }
+        ensures value { MatchOption result (self.old.body.kept ≡ None) (λ port. self.old.body.kept ≡ Some port.value) }
     {
         if self.state != OPEN {
             return None;
@@ -54,10 +54,10 @@ impl CamXpt {
     }
 
     /// Puts a transport in. One that was there is dropped.
-    pub fn put(&mut self, xpt: Box<Xpt>)
-        ensures { self.new.body.kept ≡ Some xpt.value }
+    pub fn put(&mut self, port: Box<Port>)
+        ensures { self.new.body.kept ≡ Some port.value }
     {
-        *self = CamXpt::opened(xpt);
+        *self = CamXpt::opened(port);
     }
 }
 

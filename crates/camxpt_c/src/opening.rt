@@ -2,16 +2,16 @@
 
 ghost use Rattle.std.specs.Prelude.{◌≡◌, IfOk, IfErr, MatchResult, Some};
 ghost use Rattle.camxpt_c.specs.Configs.{plain_topology, linked_topology, bounds_of};
-ghost use Rattle.camxpt_c.specs.Openings.{IsOpening, IsConfigOf, opened, error_code, limits_in};
+ghost use Rattle.camxpt_c.specs.Openings.{IsOpening, IsConfigOf, opened_port, error_code, limits_in};
 ghost use Rattle.camxpt_c.specs.declared.codes.TheConstants.{OK, E_MEMORY};
 
 use crate::codes::{E_LIMIT, E_MEMORY, E_OPEN, OK, fault_code};
 use crate::configs::{adapters_of, devices_of, weights_of};
 use crate::handle::CamXpt;
+use crate::port::Port;
 use crate::shapes::{CamxptAdapter, CamxptDevice, CamxptLimits, CamxptWeight};
 use cam_types::{Config, ConfigError, Limits};
 use std::alloc::Global;
-use xpt_state::Xpt;
 
 /// Opens a closed handle: adapters of these openings on no link, these devices, and a lane on each of these adapters, with
 /// the standard table of weights.
@@ -26,8 +26,8 @@ pub extern "C" fn camxpt_raw_open(
 ) -> i32
     ensures { IsOpening (plain_topology adapters.now devices.now lanes.now) (bounds_of limits.now) handle.old.body.kept handle.new.body.kept result }
 {
-    if let Some(xpt) = handle.take(alloc) {
-        handle.put(xpt);
+    if let Some(port) = handle.take(alloc) {
+        handle.put(port);
         return E_OPEN;
     }
     let Some(limits) = limits_in(limits) else {
@@ -53,8 +53,8 @@ pub extern "C" fn camxpt_raw_open_with(
 ) -> i32
     ensures { IsOpening (linked_topology weights.now links.now adapters.now devices.now lanes.now) (bounds_of limits.now) handle.old.body.kept handle.new.body.kept result }
 {
-    if let Some(xpt) = handle.take(alloc) {
-        handle.put(xpt);
+    if let Some(port) = handle.take(alloc) {
+        handle.put(port);
         return E_OPEN;
     }
     let Some(limits) = limits_in(limits) else {
@@ -129,29 +129,29 @@ fn error_code(error: ConfigError) -> i32
     }
 }
 
-// A transport in a box.
-fn boxed(alloc: Global, config: Config, limits: Limits) -> Result<Box<Xpt>, i32>
-    ensures ok { IfOk result (λ made. made.value ≡ opened config limits) }
+// A port in a box.
+fn boxed(alloc: Global, config: Config, limits: Limits) -> Result<Box<Port>, i32>
+    ensures ok { IfOk result (λ made. made.value ≡ opened_port config limits) }
     ensures err { IfErr result (λ code. code ≡ E_MEMORY) }
 {
-    let Ok(xpt) = Xpt::open(alloc, config, limits) else {
+    let Ok(port) = Port::open(alloc, config, limits) else {
         return Err(E_MEMORY);
     };
-    match Box::new(alloc, xpt) {
+    match Box::new(alloc, port) {
         Ok(made) => Ok(made),
         Err(_) => Err(E_MEMORY),
     }
 }
 
 // Puts what was made into the handle.
-fn keep(handle: &mut CamXpt, made: Result<Box<Xpt>, i32>) -> i32
+fn keep(handle: &mut CamXpt, made: Result<Box<Port>, i32>) -> i32
     ensures { MatchResult made
-        (λ xpt. (result ≡ OK) × (handle.new.body.kept ≡ Some xpt.value))
+        (λ port. (result ≡ OK) × (handle.new.body.kept ≡ Some port.value))
         (λ code. (result ≡ code) × (handle.new.body.kept ≡ handle.old.body.kept)) }
 {
     match made {
-        Ok(xpt) => {
-            handle.put(xpt);
+        Ok(port) => {
+            handle.put(port);
             OK
         }
         Err(code) => code,

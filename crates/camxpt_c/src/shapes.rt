@@ -1,9 +1,10 @@
 //! The structs that cross, field for field as in the header.
 
 ghost use Rattle.std.specs.Prelude.{◌≡◌};
-ghost use Rattle.camxpt_c.specs.Shapes.{command_of, IsDone, IsCase};
+ghost use Rattle.camxpt_c.specs.Shapes.{command_of, device_counts_of, IsDone, IsCase};
 
 use crate::codes::class_code;
+use crate::tally::Tally;
 use cam_types::Command;
 use xpt_state::{Case, Done};
 
@@ -43,7 +44,7 @@ pub struct CamxptWeight {
     pub weight: u32,
 }
 
-/// A command that a lane sends.
+/// A command that a lane sends, and the pointer of its CCB.
 #[repr(C)]
 #[derive(Clone, Copy)]
 pub struct CamxptCommand {
@@ -52,22 +53,25 @@ pub struct CamxptCommand {
     pub device: u32,
     pub priority: u32,
     pub driver: u8,
+    pub user: u64,
 }
 
-/// What a completion comes to: the number of its class, and the status to hand up.
+/// What a completion comes to: the number of its class, the status to hand up, and the pointer of its CCB.
 #[repr(C)]
 #[derive(Clone, Copy)]
 pub struct CamxptDone {
     pub class: u32,
     pub value: u8,
+    pub user: u64,
 }
 
-/// A CCB that waits for a decision, and the number of the class of its last result.
+/// A CCB that waits for a decision, the number of the class of its last result, and its pointer.
 #[repr(C)]
 #[derive(Clone, Copy)]
 pub struct CamxptCase {
     pub ccb: u32,
     pub class: u32,
+    pub user: u64,
 }
 
 /// What there is to see, in counts.
@@ -79,11 +83,27 @@ pub struct CamxptLook {
     pub in_flight: u32,
     pub cases: u32,
     pub waiting: u32,
+    pub stays: u32,
+    pub alive: u32,
     pub heads: usize,
 }
 
-pub(crate) fn command_shape(command: Command) -> CamxptCommand
-    ensures { command_of result ≡ command }
+/// What there is to see of a device, in counts.
+#[repr(C)]
+#[derive(Clone, Copy)]
+pub struct CamxptDeviceCounts {
+    pub queued: u32,
+    pub requeued: u32,
+    pub in_flight: u32,
+    pub openings: u32,
+    pub next_openings: u32,
+    pub callers: u32,
+    pub errors: u32,
+}
+
+pub(crate) fn command_shape(command: Command, user: u64) -> CamxptCommand
+    ensures command { command_of result ≡ command }
+    ensures user { result.user ≡ user }
 {
     CamxptCommand {
         ccb: command.ccb,
@@ -91,23 +111,40 @@ pub(crate) fn command_shape(command: Command) -> CamxptCommand
         device: command.device,
         priority: command.priority,
         driver: command.driver,
+        user,
     }
 }
 
-pub(crate) fn done_shape(done: Done) -> CamxptDone
-    ensures { IsDone done result }
+pub(crate) fn done_shape(done: Done, user: u64) -> CamxptDone
+    ensures { IsDone done user result }
 {
     CamxptDone {
         class: class_code(done.class),
         value: done.value,
+        user,
     }
 }
 
-pub(crate) fn case_shape(case: Case) -> CamxptCase
-    ensures { IsCase case result }
+pub(crate) fn case_shape(case: Case, user: u64) -> CamxptCase
+    ensures { IsCase case user result }
 {
     CamxptCase {
         ccb: case.ccb,
         class: class_code(case.class),
+        user,
+    }
+}
+
+pub(crate) fn device_counts_shape(tally: Tally) -> CamxptDeviceCounts
+    ensures { result ≡ device_counts_of tally }
+{
+    CamxptDeviceCounts {
+        queued: tally.queued,
+        requeued: tally.requeued,
+        in_flight: tally.in_flight,
+        openings: tally.openings,
+        next_openings: tally.next_openings,
+        callers: tally.callers,
+        errors: tally.errors,
     }
 }

@@ -24,13 +24,13 @@ pub extern "C" fn camxpt_raw_trace(
     ensures same { handle.new.body.kept ≡ handle.old.body.kept }
     ensures trace { MatchOption handle.old.body.kept
         ((result ≡ E_CLOSED) × (buffer.new ≡ buffer.old) × (needed.new ≡ needed.old))
-        (λ t. IsTraceOf (record { config = t.config; events = t.events }) buffer.old needed.old buffer.new needed.new result) }
+        (λ p. IsTraceOf (record { config = p.xpt.config; events = p.xpt.events }) buffer.old needed.old buffer.new needed.new result) }
 {
-    let Some(xpt) = handle.take(alloc) else {
+    let Some(port) = handle.take(alloc) else {
         return E_CLOSED;
     };
-    let text = text_of(alloc, &xpt);
-    handle.put(xpt);
+    let text = text_of(alloc, port.xpt());
+    handle.put(port);
     let Ok(text) = text else {
         return E_MEMORY;
     };

@@ -14,7 +14,7 @@ use denote.Struct.Owning.{shape, fields, to}
 use Rattle.std.proofs.Crossing as crossing
 use Rattle.std.specs.contracts.alloc.Global as heap
 use Rattle.std.specs.contracts.impls.GlobalAllocator.TheImpl.{ghosts}
-use Rattle.xpt_state.proofs.xpt.Xpt.TheSendSync as xpt_law
+use Rattle.camxpt_c.proofs.port.Port.TheSendSync as port_law
 use Rattle.camxpt_c.specs.Held.{held}
 use Rattle.camxpt_c.proofs.Bodies.{Z, R}
 use Rattle.camxpt_c.specs.contracts.body.Body.{the_row, the_type}
@@ -28,7 +28,7 @@ lies T s (block_ptr b o) x = part_keyless T s full_share x b o
 lies T s null_ptr x = tt
 
 kept : (a : Z.Denot) (p : Ptr) (x : Option R.Denot) → Keyless (held (ghosts.dealloc_token a) R p x)
-kept a p (Some x) = (lies R xpt_law.the_send p x, crossing.frees.frees a (raw (lone R.mir)) p)
+kept a p (Some x) = (lies R port_law.the_send p x, crossing.frees.frees a (raw (lone R.mir)) p)
 kept a p None = tt
 
 pub send : IsSend the_row

@@ -34,10 +34,13 @@ impl Figure {
 
     /// The least and the greatest of these stays, of which there is one at least.
     pub(crate) fn ends(self, stays: &[&ExplainedStay]) -> (u32, u32) {
-        stays.iter().fold((u32::MAX, 0), |ends, stay| {
+        let (mut least, mut most) = (u32::MAX, 0);
+        for stay in stays {
             let figure = self.of(stay);
-            (figure.min(ends.0), figure.max(ends.1))
-        })
+            least = figure.min(least);
+            most = figure.max(most);
+        }
+        (least, most)
     }
 }
 
@@ -59,12 +62,12 @@ fn count_alike(kind: InputKind, stays: &[&ExplainedStay]) -> usize {
         return 0;
     };
     let (wanted, least) = (likeness(kind, first), first.cost().saturating_mul(9));
-    stays
-        .iter()
-        .take_while(|stay| {
-            likeness(kind, stay) == wanted && stay.cost().saturating_mul(10) >= least
-        })
-        .count()
+    for (count, stay) in stays.iter().enumerate() {
+        if likeness(kind, stay) != wanted || stay.cost().saturating_mul(10) < least {
+            return count;
+        }
+    }
+    stays.len()
 }
 
 // What stays that are alike have in common.
@@ -74,10 +77,12 @@ fn likeness(kind: InputKind, stay: &ExplainedStay) -> (u32, u8, u32, WaitCause) 
 
 // The cause for which the stay waited most; of equal ones the one that is tested first.
 fn main_cause(kind: InputKind, stay: &ExplainedStay) -> WaitCause {
-    kind.causes()
-        .iter()
-        .rev()
-        .max_by_key(|cause| stay.rounds.for_cause(**cause))
-        .copied()
-        .unwrap_or(WaitCause::NotAsked)
+    let (mut main, mut most) = (WaitCause::NotAsked, 0);
+    for cause in kind.causes().iter().rev() {
+        let rounds = stay.rounds.for_cause(*cause);
+        if rounds >= most {
+            (main, most) = (*cause, rounds);
+        }
+    }
+    main
 }

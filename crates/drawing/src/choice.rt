@@ -75,10 +75,7 @@ impl Choice {
         let mut length = LENGTH.max(count_of(figures) / MAX_RANGES + 1);
         let mut ranges = cut(alloc, figures, length)?;
         for _ in 0..16 {
-            let pieces = ranges
-                .iter()
-                .fold(0u64, |pieces, range| pieces.saturating_add(range.stays));
-            if pieces > MAX_PIECES {
+            if pieces(&ranges) > MAX_PIECES {
                 length = length.saturating_mul(2);
                 ranges = cut(alloc, figures, length)?;
             }
@@ -112,15 +109,29 @@ impl Choice {
 
     /// What the waiting in these ranges cost.
     pub(crate) fn cost(&self) -> u64 {
-        self.ranges
-            .iter()
-            .fold(0, |cost, range| cost.saturating_add(range.cost))
+        let mut cost = 0u64;
+        for range in &self.ranges {
+            cost = cost.saturating_add(range.cost);
+        }
+        cost
     }
 
     /// Whether the stay has its whole bar, with its send.
     pub(crate) fn has_bar(&self, stay: &ExplainedStay) -> bool {
-        self.ranges
-            .iter()
-            .any(|range| range.has(stay.live) && !range.is_crowded())
+        for range in &self.ranges {
+            if range.has(stay.live) {
+                return !range.is_crowded();
+            }
+        }
+        false
     }
+}
+
+// How many bars these ranges have together.
+fn pieces(ranges: &[RoundRange]) -> u64 {
+    let mut pieces = 0u64;
+    for range in ranges {
+        pieces = pieces.saturating_add(range.stays);
+    }
+    pieces
 }

@@ -46,11 +46,11 @@ impl ColumnValue {
 
     /// The greatest of these rounds.
     pub(crate) fn most(self, figures: &[RoundFigures]) -> u64 {
-        figures
-            .iter()
-            .map(|figure| self.of(figure))
-            .max()
-            .unwrap_or(0)
+        let mut most = 0;
+        for figure in figures {
+            most = self.of(figure).max(most);
+        }
+        most
     }
 }
 

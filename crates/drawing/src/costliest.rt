@@ -8,7 +8,7 @@ use crate::scene::{Scene, parts_by_cost};
 use recording_file::{NameKind, Span};
 use std::alloc::AllocError;
 use std::cmp::Reverse;
-use wait_causes::{ExplainedStay, Grouping};
+use wait_causes::{ExplainedStay, Grouping, Row};
 use wording::{
     Page, push_end, push_number, push_numbers, push_range, push_share, push_signed, push_span,
 };
@@ -42,13 +42,7 @@ pub(crate) fn push_costliest(
         Grouping::Level,
     ] {
         if let Some(row) = parts_by_cost(scene.alloc, scene.explanation, *by)?.first() {
-            page.put("<tr><th scope='row'>");
-            scene.push_part(page, *by, row.number);
-            push_numbers(page, &[("</th><td>", row.part.live)], "</td><td>");
-            push_share(page, row.part.live, scene.whole.live);
-            push_numbers(page, &[("</td><td>", row.part.best)], "</td><td>");
-            push_signed(page, row.part.excess());
-            page.put("</td></tr>\n");
+            push_part(page, scene, *by, row);
         }
     }
     page.put("</tbody></table>\n");
@@ -59,14 +53,26 @@ pub(crate) fn push_costliest(
     Ok(())
 }
 
+// Puts the row of the costliest part of a kind on the page.
+fn push_part(page: &mut Page, scene: &Scene, by: Grouping, row: &Row) {
+    let part = &row.part;
+    page.put("<tr><th scope='row'>");
+    scene.push_part(page, by, row.number);
+    push_numbers(page, &[("</th><td>", part.live)], "</td><td>");
+    push_share(page, part.live, scene.whole.live);
+    push_numbers(page, &[("</td><td>", part.best)], "</td><td>");
+    push_signed(page, part.excess());
+    page.put("</td></tr>\n");
+}
+
 // Puts the rows of the costliest stays on the page, as far as they cost anything: those that are alike in one row.
 fn push_stays(page: &mut Page, scene: &Scene, choice: &Choice) -> Result<(), AllocError> {
-    let mut stays: Vec<&ExplainedStay> = scene
-        .explanation
-        .stays()
-        .iter()
-        .filter(|stay| stay.cost() > 0)
-        .collect(scene.alloc)?;
+    let mut stays = Vec::new(scene.alloc);
+    for stay in scene.explanation.stays() {
+        if stay.cost() > 0 {
+            stays.push(stay)?;
+        }
+    }
     stays.sort_by_key(|stay| Reverse(stay.cost()))?;
     let mut place = 0usize;
     for _ in 0..LISTED {
@@ -100,13 +106,7 @@ fn push_row(page: &mut Page, scene: &Scene, choice: &Choice, stays: &[&Explained
     let (least, most) = Figure::Priority.ends(stays);
     push_range(page, least, most);
     for figure in &[Figure::Arrival, Figure::Sent, Figure::Best] {
-        let (least, most) = figure.ends(stays);
-        page.put("</td><td>");
-        push_moment(page, unit, least);
-        if least < most {
-            page.put("<br/> to&#160;");
-            push_moment(page, unit, most);
-        }
+        push_moments(page, unit, figure.ends(stays));
     }
     page.put("</td><td>");
     push_waited(page, unit, Figure::Waited.ends(stays));
@@ -125,6 +125,16 @@ fn push_link(page: &mut Page, scene: &Scene, choice: &Choice, stay: &ExplainedSt
         page.put("<span>");
         push_stay_name(page, scene, stay);
         page.put("</span>");
+    }
+}
+
+// Puts the cell of the least and the greatest of some rounds on the page.
+fn push_moments(page: &mut Page, unit: Option<Span>, (least, most): (u32, u32)) {
+    page.put("</td><td>");
+    push_moment(page, unit, least);
+    if least < most {
+        page.put("<br/> to&#160;");
+        push_moment(page, unit, most);
     }
 }
 
@@ -168,9 +178,10 @@ fn push_waited(page: &mut Page, unit: Option<Span>, (least, most): (u32, u32)) {
 
 // Puts what some stays cost together on the page.
 fn push_cost(page: &mut Page, stays: &[&ExplainedStay]) {
-    let cost = stays
-        .iter()
-        .fold(0u64, |cost, stay| cost.saturating_add(stay.cost()));
+    let mut cost = 0u64;
+    for stay in stays {
+        cost = cost.saturating_add(stay.cost());
+    }
     push_numbers(page, &[("</td><td>", cost)], "");
     page.put(if stays.len() > 1 {
         " together</td><td>"

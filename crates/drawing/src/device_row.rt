@@ -32,19 +32,40 @@ pub(crate) fn push_rows(
         loads: Loads::of(scene.alloc, net, stays, range)?,
     };
     for link in 0..net.links() {
-        let row = net
-            .devices()
-            .saturating_add(net.adapters())
-            .saturating_add(link);
-        push_shared(page, scene, &drawn, NameKind::Link, link, row);
+        push_shared(
+            page,
+            scene,
+            &drawn,
+            NameKind::Link,
+            link,
+            net.link_resource(link),
+        );
     }
     for adapter in 0..net.adapters() {
-        let row = net.devices().saturating_add(adapter);
-        push_shared(page, scene, &drawn, NameKind::Adapter, adapter, row);
-        for device in 0..net.devices() {
-            if net.adapter_of(device) == adapter {
-                push_device(page, scene, &drawn, device)?;
-            }
+        push_adapter(page, scene, &drawn, adapter)?;
+    }
+    Ok(())
+}
+
+// Puts the row of an adapter on the page, and those of its devices that have bars.
+fn push_adapter(
+    page: &mut Page,
+    scene: &Scene,
+    drawn: &Drawn,
+    adapter: u32,
+) -> Result<(), AllocError> {
+    let net = scene.net;
+    push_shared(
+        page,
+        scene,
+        drawn,
+        NameKind::Adapter,
+        adapter,
+        net.devices().saturating_add(adapter),
+    );
+    for device in 0..net.devices() {
+        if net.adapter_of(device) == adapter {
+            push_device(page, scene, drawn, device)?;
         }
     }
     Ok(())
@@ -100,20 +121,26 @@ fn push_device(
     let height = pitch.saturating_mul(lanes.len() as u64);
     let whole = height.saturating_add(STRIP + 2);
     push_start(page, scene, drawn, "row", NameKind::Device, device, whole);
-    let bars = lanes
-        .iter()
-        .fold(0u64, |bars, lane| bars.saturating_add(lane.len() as u64));
-    push_numbers(
-        page,
-        &[("<desc>Requests in its queue in these rounds: ", bars)],
-        ", a bar each</desc>",
-    );
+    push_count(page, &lanes);
     push_shades(page, scene, drawn, device, pitch)?;
     push_lanes(page, scene, drawn, device, &lanes)?;
     page.show(format_args!("<g transform='translate(0 {})'>", height.saturating_add(2)));
     drawn.loads.push(page, device);
     page.put("</g></svg></div>\n");
     Ok(())
+}
+
+// Says how many bars there are in these lanes.
+fn push_count(page: &mut Page, lanes: &[Vec<usize>]) {
+    let mut bars = 0u64;
+    for lane in lanes {
+        bars = bars.saturating_add(lane.len() as u64);
+    }
+    push_numbers(
+        page,
+        &[("<desc>Requests in its queue in these rounds: ", bars)],
+        ", a bar each</desc>",
+    );
 }
 
 // The height of each of so many lanes in pixels.

@@ -1,6 +1,6 @@
 //! The glossary of the page.
 
-use cam_types::Config;
+use crate::scene::Scene;
 use wait_causes::{InputKind, WaitCause};
 use wording::{Page, plain_words};
 
@@ -31,8 +31,8 @@ const END: &str =
     "</dl>\n<p><code>camxpt explain --json</code> has all numbers of this page, and every request with its waits.</p></section>\n";
 
 /// Puts what the words mean on the page.
-pub(crate) fn push_words(page: &mut Page, kind: InputKind, completions: bool, config: &Config) {
-    let (full, rest) = match kind {
+pub(crate) fn push_words(page: &mut Page, scene: &Scene) {
+    let (full, rest) = match scene.explanation.kind() {
         InputKind::Trace => (
             "the device had taken as many requests in the round as it takes",
             TRACE,
@@ -43,27 +43,24 @@ pub(crate) fn push_words(page: &mut Page, kind: InputKind, completions: bool, co
         ),
     };
     page.put(WORDS);
+    push_full(page, scene, WaitCause::DeviceFull, full);
     push_full(
         page,
-        plain_words(kind, completions, WaitCause::DeviceFull),
-        WaitCause::DeviceFull,
-        full,
-    );
-    push_full(
-        page,
-        plain_words(kind, completions, WaitCause::AdapterFull),
+        scene,
         WaitCause::AdapterFull,
         "the same of the adapter",
     );
     page.words(&[MORE_WORDS, rest]);
-    if WaitCause::LinkFull.can_hold(config) {
+    if WaitCause::LinkFull.can_hold(scene.net.config()) {
         page.put(LINKS);
     }
     page.put(END);
 }
 
 // Puts the words of full devices or adapters on the page, with what they mean.
-fn push_full(page: &mut Page, plain: &str, cause: WaitCause, meant: &str) {
-    let name = cause.name();
-    page.show(format_args!("<dt>{plain} ({name})</dt><dd>{meant}</dd>"));
+fn push_full(page: &mut Page, scene: &Scene, cause: WaitCause, meant: &str) {
+    let completions = scene.whole.latency.is_some();
+    let plain = plain_words(scene.explanation.kind(), completions, cause);
+    page.words(&["<dt>", plain, " (", cause.name(), ")</dt><dd>"]);
+    page.words(&[meant, "</dd>"]);
 }

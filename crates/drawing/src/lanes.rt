@@ -2,7 +2,7 @@
 
 use crate::scene::Scene;
 use crate::slots::Slots;
-use std::alloc::AllocError;
+use std::alloc::{AllocError, Global};
 
 /// The lanes of the device's stays at these places, each the places of its stays: in the order in which they arrived each
 /// stay has the first lane that is free from its arrival to its last mark.
@@ -15,16 +15,27 @@ pub(crate) fn lanes_of(
     let mut lanes = Vec::new(scene.alloc);
     for (arrival, place) in &arrivals(scene, places, device)? {
         if let Some(stay) = scene.explanation.stays().get(*place) {
-            let slot = slots.take(*arrival, stay.live.max(stay.best))? as usize;
-            if slot >= lanes.len() {
-                lanes.push(Vec::new(scene.alloc))?;
-            }
-            if let Some(lane) = lanes.get_mut(slot) {
-                lane.push(*place)?;
-            }
+            let slot = slots.take(*arrival, stay.live.max(stay.best))?;
+            put_in(scene.alloc, &mut lanes, slot as usize, *place)?;
         }
     }
     Ok(lanes)
+}
+
+// Puts a place into the lane of a slot, which may be the next new one.
+fn put_in(
+    alloc: Global,
+    lanes: &mut Vec<Vec<usize>>,
+    slot: usize,
+    place: usize,
+) -> Result<(), AllocError> {
+    if slot >= lanes.len() {
+        lanes.push(Vec::new(alloc))?;
+    }
+    if let Some(lane) = lanes.get_mut(slot) {
+        lane.push(place)?;
+    }
+    Ok(())
 }
 
 // Those of these places at which a stay of the device is, each after the stay's arrival, in the order in which they arrived;

@@ -4,7 +4,7 @@ use crate::choice::Choice;
 use crate::costliest::push_costliest;
 use crate::glossary::push_words;
 use crate::overview::push_overview;
-use crate::round_figures::figures;
+use crate::round_figures::{RoundFigures, figures};
 use crate::round_range::MAX_BARS;
 use crate::scene::Scene;
 use crate::section::push_ranges;
@@ -35,19 +35,49 @@ pub fn draw(
     let scene = Scene::of(alloc, net, explanation, has_all)?;
     let figures = figures(alloc, net, stays)?;
     let choice = Choice::of(&scene, &figures, rounds)?;
-    let mut page = Page::new(alloc);
-    push_head(&mut page, &scene, title);
-    push_summary(&mut page, &scene, by_weight);
-    push_costliest(&mut page, &scene, &choice)?;
-    push_overview(&mut page, &scene, &choice, &figures)?;
-    push_ranges(&mut page, &scene, &choice)?;
-    push_tables(&mut page, &scene)?;
-    push_level_waits(&mut page, &scene, by_weight)?;
-    push_freezes(&mut page, &scene)?;
-    let completions = scene.whole.latency.is_some();
-    push_words(&mut page, explanation.kind(), completions, net.config());
+    page_of(title, &scene, &figures, &choice, by_weight)
+}
+
+// The page with these figures and ranges.
+fn page_of(
+    title: &str,
+    scene: &Scene,
+    figures: &[RoundFigures],
+    choice: &Choice,
+    by_weight: Option<&ByWeight>,
+) -> Result<String, AllocError> {
+    let mut page = Page::new(scene.alloc);
+    push_head(&mut page, scene, title);
+    push_summary(&mut page, scene, by_weight);
+    push_drawings(&mut page, scene, choice, figures)?;
+    push_lists(&mut page, scene, by_weight)?;
     page.put("</main></body></html>\n");
     page.finish()
+}
+
+// Puts what cost most, the overview and the bars on the page.
+fn push_drawings(
+    page: &mut Page,
+    scene: &Scene,
+    choice: &Choice,
+    figures: &[RoundFigures],
+) -> Result<(), AllocError> {
+    push_costliest(page, scene, choice)?;
+    push_overview(page, scene, choice, figures)?;
+    push_ranges(page, scene, choice)
+}
+
+// Puts the tables and what the words mean on the page.
+fn push_lists(
+    page: &mut Page,
+    scene: &Scene,
+    by_weight: Option<&ByWeight>,
+) -> Result<(), AllocError> {
+    push_tables(page, scene)?;
+    push_level_waits(page, scene, by_weight)?;
+    push_freezes(page, scene)?;
+    push_words(page, scene);
+    Ok(())
 }
 
 // Puts what stands before the summary on the page.

@@ -53,13 +53,14 @@ fn push_drivers(page: &mut Page, scene: &Scene) {
     let mut others = scene.whole.live;
     page.put("<ul class='legend by-driver'>\n");
     for (rank, row) in scene.drivers.iter().take(COLOURS).enumerate() {
-        page.show(format_args!("{SWATCH}w v{rank}{SWATCH_END}"));
+        push_swatch(page, "w v", rank as u64);
         scene.push_name(page, NameKind::Driver, row.number);
         push_cost(page, scene, row.part.live);
         others = others.saturating_sub(row.part.live);
     }
     if scene.drivers.len() > COLOURS {
-        page.show(format_args!("{SWATCH}w v{COLOURS}{SWATCH_END}all other drivers"));
+        push_swatch(page, "w v", COLOURS as u64);
+        page.put("all other drivers");
         push_cost(page, scene, others);
     }
     page.put("</ul>\n");
@@ -69,12 +70,19 @@ fn push_drivers(page: &mut Page, scene: &Scene) {
 fn push_classes(page: &mut Page, scene: &Scene) -> Result<(), AllocError> {
     page.put("<ul class='legend by-class'>\n");
     for row in &scene.explanation.table(scene.alloc, Grouping::Level)? {
-        let class = row.number;
-        page.show(format_args!("{SWATCH}w l{class}{SWATCH_END}class {class}"));
+        push_swatch(page, "w l", u64::from(row.number));
+        page.parts(&[("class ", u64::from(row.number))], "");
         push_cost(page, scene, row.part.live);
     }
     page.put("</ul>\n");
     Ok(())
+}
+
+// Puts the swatch of the driver or class of this number on the page.
+fn push_swatch(page: &mut Page, class: &str, number: u64) {
+    page.words(&[SWATCH, class]);
+    page.show(number);
+    page.put(SWATCH_END);
 }
 
 // Puts a cost with its share on the page, and the end of its item.

@@ -69,16 +69,19 @@ fn push_parts(page: &mut Page, scene: &Scene) {
         return;
     };
     page.put("<ul class='legend' id='cost-parts'>\n");
-    for (class, words, cost) in &[
-        ("order", "by order", whole.live.saturating_sub(pace)),
-        ("idle", "by idle slots", pace.saturating_sub(whole.best)),
-        ("needed", "needed", whole.best),
-    ] {
-        page.words(&[SWATCH, class, SWATCH_END, words]);
-        push_numbers(page, &[(" <b>", *cost)], "</b> (");
-        push_share(page, *cost, whole.live);
-        page.put(")</li>\n");
-    }
+    push_part(
+        page,
+        scene,
+        ["order", "by order"],
+        whole.live.saturating_sub(pace),
+    );
+    push_part(
+        page,
+        scene,
+        ["idle", "by idle slots"],
+        pace.saturating_sub(whole.best),
+    );
+    push_part(page, scene, ["needed", "needed"], whole.best);
     page.words(&[
         SWATCH,
         "used",
@@ -89,15 +92,16 @@ fn push_parts(page: &mut Page, scene: &Scene) {
     ]);
 }
 
+// Says what an area of this class stands for in words, and what share of the cost it has.
+fn push_part(page: &mut Page, scene: &Scene, [class, words]: [&str; 2], cost: u64) {
+    page.words(&[SWATCH, class, SWATCH_END, words]);
+    push_numbers(page, &[(" <b>", cost)], "</b> (");
+    push_share(page, cost, scene.whole.live);
+    page.put(")</li>\n");
+}
+
 // Puts the drawing on the page: two rows of columns, one above the other.
 fn push_chart(page: &mut Page, scene: &Scene, choice: &Choice, figures: &[RoundFigures]) {
-    let areas = areas(scene);
-    let most = areas.iter().map(|area| area.0.most(figures)).max();
-    let waiting = Scale {
-        most: most.unwrap_or(0),
-        height: 96,
-        base: 100,
-    };
     let (words, used) = below(scene);
     page.show(format_args!(
         "<svg xmlns='http://www.w3.org/2000/svg' class='chart' role='group' aria-labelledby='o1 o2' \
@@ -106,11 +110,7 @@ preserveAspectRatio='none' height='160' viewBox='0 0 {} 160'>\
 <desc id='o2'>The stretches that are drawn below are links.</desc>\n",
         figures.len()
     ));
-    for (value, class) in areas {
-        page.words(&["<path class='", class, "' d='"]);
-        push_columns(page, figures, *value, waiting);
-        page.put("'/>\n");
-    }
+    push_waiting(page, figures, areas(scene));
     push_used(page, figures, used);
     for range in &choice.ranges {
         if range.stays > 0 {
@@ -118,6 +118,24 @@ preserveAspectRatio='none' height='160' viewBox='0 0 {} 160'>\
         }
     }
     page.put("</svg>\n");
+}
+
+// Puts the columns above on the page, each area before the next.
+fn push_waiting(page: &mut Page, figures: &[RoundFigures], areas: &[(ColumnValue, &str)]) {
+    let mut most = 0;
+    for (value, _) in areas {
+        most = value.most(figures).max(most);
+    }
+    let scale = Scale {
+        most,
+        height: 96,
+        base: 100,
+    };
+    for (value, class) in areas {
+        page.words(&["<path class='", class, "' d='"]);
+        push_columns(page, figures, *value, scale);
+        page.put("'/>\n");
+    }
 }
 
 // Puts the columns below on the page, with the line to which they may reach: the openings, or the most that were in flight.
@@ -193,12 +211,14 @@ fn push_caption(page: &mut Page, scene: &Scene, figures: &[RoundFigures]) {
 fn push_most(page: &mut Page, scene: &Scene, figures: &[RoundFigures], shown: ColumnValue) {
     let most = shown.most(figures);
     push_number(page, most);
-    for (round, figure) in (1..=count_of(figures)).zip(figures.iter()) {
+    let mut round = 1u32;
+    for figure in figures {
         if most > 0 && shown.of(figure) == most {
             page.put(" in round ");
             push_round(page, scene.explanation.unit(), round);
             return;
         }
+        round = round.saturating_add(1);
     }
 }
 
@@ -207,13 +227,18 @@ fn push_list(page: &mut Page, scene: &Scene, choice: &Choice) -> Result<(), Allo
     page.put("<p>The costliest stretches, each a link:</p>\n<ol id='stretches'>\n");
     for range in by_cost(scene.alloc, &choice.ranges)?.iter().take(LISTED) {
         if range.stays > 0 {
-            page.show(format_args!("<li><a href='#r{}'>", range.first));
-            push_range_name(page, scene, range);
-            push_numbers(page, &[("</a>: cost ", range.cost)], ", ");
-            push_share(page, range.cost, scene.whole.live);
-            page.put("</li>\n");
+            push_stretch(page, scene, range);
         }
     }
     page.put("</ol>\n");
     Ok(())
+}
+
+// Puts the link to a range on the page, with what it cost.
+fn push_stretch(page: &mut Page, scene: &Scene, range: &RoundRange) {
+    page.show(format_args!("<li><a href='#r{}'>", range.first));
+    push_range_name(page, scene, range);
+    push_numbers(page, &[("</a>: cost ", range.cost)], ", ");
+    push_share(page, range.cost, scene.whole.live);
+    page.put("</li>\n");
 }

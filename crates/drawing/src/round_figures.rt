@@ -59,33 +59,53 @@ fn changes(
 ) -> Result<Vec<RoundFigures>, AllocError> {
     let mut changes = vec![in alloc; RoundFigures::default(); rounds as usize]?;
     for stay in stays {
-        let weight = u64::from(stay.weight);
-        if let Some(came) = figure_in(&mut changes, stay.arrival) {
-            came.waiting = came.waiting.wrapping_add(1);
-            came.cost = came.cost.wrapping_add(weight);
-            came.needed = came.needed.wrapping_add(weight);
-            if stay.pace.is_some() {
-                came.paced = came.paced.wrapping_add(weight);
-            }
-        }
-        if let Some(sent) = figure_in(&mut changes, stay.live) {
-            sent.sent = sent.sent.saturating_add(1);
-            sent.in_flight = sent.in_flight.wrapping_add(1);
-            sent.waiting = sent.waiting.wrapping_sub(1);
-            sent.cost = sent.cost.wrapping_sub(weight);
-        }
-        let last = stay.done.unwrap_or(stay.live);
-        if let Some(after) = figure_in(&mut changes, last.saturating_add(1)) {
-            after.in_flight = after.in_flight.wrapping_sub(1);
-        }
-        if let Some(paced) = figure_in(&mut changes, stay.pace.unwrap_or(0)) {
-            paced.paced = paced.paced.wrapping_sub(weight);
-        }
-        if let Some(best) = figure_in(&mut changes, stay.best) {
-            best.needed = best.needed.wrapping_sub(weight);
-        }
+        note_waiting(&mut changes, stay);
+        note_flight(&mut changes, stay);
+        note_schedules(&mut changes, stay);
     }
     Ok(changes)
+}
+
+// Notes from which round on a stay waited, and in which it was sent.
+fn note_waiting(changes: &mut [RoundFigures], stay: &ExplainedStay) {
+    let weight = u64::from(stay.weight);
+    if let Some(came) = figure_in(changes, stay.arrival) {
+        came.waiting = came.waiting.wrapping_add(1);
+        came.cost = came.cost.wrapping_add(weight);
+    }
+    if let Some(sent) = figure_in(changes, stay.live) {
+        sent.sent = sent.sent.saturating_add(1);
+        sent.waiting = sent.waiting.wrapping_sub(1);
+        sent.cost = sent.cost.wrapping_sub(weight);
+    }
+}
+
+// Notes from which round on a stay was in flight, and up to which.
+fn note_flight(changes: &mut [RoundFigures], stay: &ExplainedStay) {
+    if let Some(sent) = figure_in(changes, stay.live) {
+        sent.in_flight = sent.in_flight.wrapping_add(1);
+    }
+    let last = stay.done.unwrap_or(stay.live);
+    if let Some(after) = figure_in(changes, last.saturating_add(1)) {
+        after.in_flight = after.in_flight.wrapping_sub(1);
+    }
+}
+
+// Notes from which round on a stay waits in the best schedules, and in which they send it.
+fn note_schedules(changes: &mut [RoundFigures], stay: &ExplainedStay) {
+    let weight = u64::from(stay.weight);
+    if let Some(came) = figure_in(changes, stay.arrival) {
+        came.needed = came.needed.wrapping_add(weight);
+        if stay.pace.is_some() {
+            came.paced = came.paced.wrapping_add(weight);
+        }
+    }
+    if let Some(paced) = figure_in(changes, stay.pace.unwrap_or(0)) {
+        paced.paced = paced.paced.wrapping_sub(weight);
+    }
+    if let Some(best) = figure_in(changes, stay.best) {
+        best.needed = best.needed.wrapping_sub(weight);
+    }
 }
 
 // Those of a round, if there is such a round.

@@ -29,8 +29,11 @@ impl RoundRange {
             first,
             last: first.saturating_add(count_of(figures)).saturating_sub(1),
             cost: 0,
-            stays: figures.last().map_or(0, |last| last.waiting),
+            stays: 0,
         };
+        if let Some(last) = figures.last() {
+            range.stays = last.waiting;
+        }
         for figure in figures {
             range.cost = range.cost.saturating_add(figure.cost);
             range.stays = range.stays.saturating_add(figure.sent);
@@ -58,8 +61,11 @@ impl RoundRange {
         self.stays > MAX_BARS as u64
     }
 
-    // What the stay's waiting cost in these rounds.
-    fn cost_of(&self, stay: &ExplainedStay) -> u64 {
+    // What the waiting of the stay at this place cost in these rounds.
+    fn cost_of(&self, stays: &[ExplainedStay], place: usize) -> u64 {
+        let Some(stay) = stays.get(place) else {
+            return 0;
+        };
         let end = stay.live.min(self.last.saturating_add(1));
         let rounds = end.saturating_sub(stay.arrival.max(self.first));
         u64::from(stay.weight).saturating_mul(u64::from(rounds))
@@ -79,9 +85,7 @@ impl RoundRange {
             }
         }
         if places.len() > MAX_BARS {
-            places.sort_by_key(|place| {
-                Reverse(stays.get(*place).map_or(0, |stay| self.cost_of(stay)))
-            })?;
+            places.sort_by_key(|place| Reverse(self.cost_of(stays, *place)))?;
             places.truncate(MAX_BARS);
             places.sort_unstable();
         }

@@ -56,11 +56,12 @@ impl<'a> Scene<'a> {
 
     /// The place of the driver among those that cost most; 8 of all others.
     pub(crate) fn rank(&self, driver: u8) -> usize {
-        self.drivers
-            .iter()
-            .take(COLOURS)
-            .position(|row| row.number == u32::from(driver))
-            .unwrap_or(COLOURS)
+        for (rank, row) in self.drivers.iter().take(COLOURS).enumerate() {
+            if row.number == u32::from(driver) {
+                return rank;
+            }
+        }
+        COLOURS
     }
 
     /// Puts what is of this kind and number on the page: its name and after it in brackets its number, or that alone.

@@ -69,9 +69,10 @@ impl Shades {
             return false;
         }
         let (from, to) = self.cells(stay.arrival, stay.live.saturating_sub(1));
-        self.causes
-            .get(from..to)
-            .is_some_and(|cells| cells.contains(&None))
+        match self.causes.get(from..to) {
+            Some(cells) => cells.contains(&None),
+            None => false,
+        }
     }
 
     // Gives the cells of these waits their causes, unless they have one.
@@ -79,8 +80,10 @@ impl Shades {
         for wait in waits {
             if wait.first <= self.range.last && self.range.first <= wait.last {
                 let (from, to) = self.cells(wait.first, wait.last);
-                for cell in self.causes.iter_mut().take(to).skip(from) {
-                    if cell.is_none() {
+                for at in from..to {
+                    if let Some(cell) = self.causes.get_mut(at)
+                        && cell.is_none()
+                    {
                         *cell = Some(wait.cause);
                     }
                 }

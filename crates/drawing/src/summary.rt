@@ -18,13 +18,7 @@ pub(crate) fn push_summary(page: &mut Page, scene: &Scene, by_weight: Option<&By
         None => push_avoidable(page, whole),
     }
     if let Some(made) = by_weight {
-        page.put(" Had the heaviest gone first, as they came, it would have cost <b>");
-        push_cost(
-            page,
-            scene.explanation.unit().filter(|_| whole.pace.is_some()),
-            made.cost,
-        );
-        page.put("</b>.");
+        push_by_weight(page, scene, made.cost);
     }
     page.put("</p>\n");
     if whole.live > 0 {
@@ -38,6 +32,17 @@ pub(crate) fn push_summary(page: &mut Page, scene: &Scene, by_weight: Option<&By
     if !scene.net.config().has_standard_weights() {
         push_weights(page, scene.net.config());
     }
+}
+
+// Says what the order by weight would have cost.
+fn push_by_weight(page: &mut Page, scene: &Scene, cost: u64) {
+    let unit = match scene.whole.pace {
+        Some(_) => scene.explanation.unit(),
+        None => None,
+    };
+    page.put(" Had the heaviest gone first, as they came, it would have cost <b>");
+    push_cost(page, unit, cost);
+    page.put("</b>.");
 }
 
 // Says how many waited how long, and what that cost.
@@ -70,23 +75,30 @@ fn push_avoidable(page: &mut Page, whole: &Part) {
 
 // Says what of the cost of a recording was avoidable, by what.
 fn push_parts(page: &mut Page, unit: Option<Span>, whole: &Part, pace: u64) {
-    let parts = [
-        ("", whole.live.saturating_sub(pace), "</b> by order alone, "),
-        (
-            "; <b>",
-            pace.saturating_sub(whole.best),
-            "</b> by slots that stood idle, ",
-        ),
-        ("; and <b>", whole.best, "</b> was needed, "),
-    ];
+    let (by_order, by_slots) = (
+        whole.live.saturating_sub(pace),
+        pace.saturating_sub(whole.best),
+    );
     page.put("of which <b>");
-    for (before, cost, words) in &parts {
-        page.put(before);
-        push_cost(page, unit, *cost);
-        page.put(words);
-        push_share(page, *cost, whole.live);
-    }
+    push_part(page, unit, whole, by_order, "</b> by order alone, ");
+    page.put("; <b>");
+    push_part(
+        page,
+        unit,
+        whole,
+        by_slots,
+        "</b> by slots that stood idle, ",
+    );
+    page.put("; and <b>");
+    push_part(page, unit, whole, whole.best, "</b> was needed, ");
     page.put(".");
+}
+
+// Puts a part of the cost on the page, with its share behind these words.
+fn push_part(page: &mut Page, unit: Option<Span>, whole: &Part, cost: u64, words: &str) {
+    push_cost(page, unit, cost);
+    page.put(words);
+    push_share(page, cost, whole.live);
 }
 
 // Puts a cost on the page: as time by weight, if it is known how long a round is, or else in weighted rounds.

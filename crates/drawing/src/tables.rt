@@ -5,7 +5,7 @@ use crate::words::freeze_words;
 use recording_file::NameKind;
 use std::alloc::AllocError;
 use std::cmp::Reverse;
-use wait_causes::{Freeze, FreezeKind, Grouping, Row};
+use wait_causes::{Freeze, FreezeKind, Grouping, Part, Row};
 use wording::{ByWeight, Page, WaitRanks, level_waits, push_number, push_numbers, push_signed};
 
 // The columns of how long stays waited.
@@ -52,19 +52,42 @@ pub(crate) fn push_tables(page: &mut Page, scene: &Scene) -> Result<(), AllocErr
         (Grouping::Driver, "drivers", "driver"),
         (Grouping::Level, "levels", "class (run level)"),
     ] {
-        let rows = parts_by_cost(scene.alloc, scene.explanation, *by)?;
-        page.show(format_args!(
-            "<table class='wide waits' id='{id}'><caption>By {name}: how long</caption><thead><tr>\
-<th scope='col'>{name}</th>{WAITS}"
-        ));
-        push_waits(page, scene, *by, &rows);
-        page.show(format_args!(
-            "<table class='wide costs' id='{id}-costs'><caption>By {name}: live cost by cause</caption><thead><tr>\
-<th scope='col'>{name}</th>"
-        ));
-        push_costs(page, scene, *by, &rows);
+        push_pair(page, scene, *by, id, name)?;
     }
     page.put("</section>\n");
+    Ok(())
+}
+
+// Puts the two tables of these parts on the page.
+fn push_pair(
+    page: &mut Page,
+    scene: &Scene,
+    by: Grouping,
+    id: &str,
+    name: &str,
+) -> Result<(), AllocError> {
+    let rows = parts_by_cost(scene.alloc, scene.explanation, by)?;
+    page.words(&[
+        "<table class='wide waits' id='",
+        id,
+        "'><caption>By ",
+        name,
+        ": how long</caption><thead><tr><th scope='col'>",
+        name,
+        "</th>",
+        WAITS,
+    ]);
+    push_waits(page, scene, by, &rows);
+    page.words(&[
+        "<table class='wide costs' id='",
+        id,
+        "-costs'><caption>By ",
+        name,
+        ": live cost by cause</caption><thead><tr><th scope='col'>",
+        name,
+        "</th>",
+    ]);
+    push_costs(page, scene, by, &rows);
     Ok(())
 }
 
@@ -110,28 +133,32 @@ fn push_cells(page: &mut Page, cells: &[u64]) {
 
 // Puts the other heads of columns on the page, what each part cost, and the end of the table.
 fn push_costs(page: &mut Page, scene: &Scene, by: Grouping, rows: &[Row]) {
-    let (kind, config) = (scene.explanation.kind(), scene.net.config());
-    for cause in &kind.causes() {
-        if cause.can_hold(config) {
+    for cause in &scene.explanation.kind().causes() {
+        if cause.can_hold(scene.net.config()) {
             page.words(&["<th scope='col'>", cause.name(), "</th>"]);
         }
     }
     page.put(BEHIND);
     for row in rows {
         push_head(page, scene, by, row.number);
-        for (cause, cost) in &row.part.costs.by_cause(kind) {
-            if cause.can_hold(config) {
-                push_cells(page, &[*cost]);
-            }
-        }
-        let behind = &row.part.behind;
-        push_cells(
-            page,
-            &[behind.less_urgent, behind.equal, behind.more_urgent],
-        );
+        push_part_costs(page, scene, &row.part);
         page.put("</tr>\n");
     }
     page.put("</tbody></table>\n");
+}
+
+// Puts what a part cost on the page, by cause and by what full rows sent.
+fn push_part_costs(page: &mut Page, scene: &Scene, part: &Part) {
+    for (cause, cost) in &part.costs.by_cause(scene.explanation.kind()) {
+        if cause.can_hold(scene.net.config()) {
+            push_cells(page, &[*cost]);
+        }
+    }
+    let behind = &part.behind;
+    push_cells(
+        page,
+        &[behind.less_urgent, behind.equal, behind.more_urgent],
+    );
 }
 
 /// Puts the percentiles of the waits of each run level on the page: as recorded, by the order by weight, and in the best schedule.

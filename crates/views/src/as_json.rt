@@ -3,7 +3,6 @@
 pub use audit::audit_json;
 pub use check::check_json;
 pub use compare::compare_json;
-pub(crate) use counts::Counts;
 pub use explain::explain_json;
 pub use improvements::what_if_json;
 pub use prove::prove_json;

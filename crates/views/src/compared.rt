@@ -1,6 +1,5 @@
 //! An input of which two are put side by side.
 
-use crate::as_json::Counts;
 use round_net::Net;
 use wait_causes::Explanation;
 use wording::Captions;
@@ -18,14 +17,5 @@ impl<'a> Compared<'a> {
     /// What its parts are called.
     pub(crate) fn captions(self) -> Captions<'a> {
         Captions::of(self.net.config(), self.explanation)
-    }
-
-    /// What is counted of it.
-    pub(crate) fn counts(self) -> Counts<'a> {
-        Counts {
-            trace: self.name,
-            net: self.net,
-            unit: self.explanation.unit(),
-        }
     }
 }

@@ -32,14 +32,19 @@ impl Pair<'_> {
 
     /// The rows of each table in pairs, in the order of `GROUPINGS`.
     pub(crate) fn tables(&self, alloc: Global) -> Result<Vec<Vec<PairedRow>>, AllocError> {
-        let (before, after) = (self.before.explanation, self.after.explanation);
         let mut tables = Vec::with_capacity(alloc, GROUPINGS.len())?;
         for (by, _, _) in &GROUPINGS {
-            let (was, is) = (before.table(alloc, *by)?, after.table(alloc, *by)?);
-            let kind = names_for(self.asked, *by, before.names(), after.names());
-            tables.push(paired(alloc, kind, before.names(), after.names(), &was, &is)?)?;
+            tables.push(self.table(alloc, *by)?)?;
         }
         Ok(tables)
+    }
+
+    // The rows of this table in pairs.
+    fn table(&self, alloc: Global, by: Grouping) -> Result<Vec<PairedRow>, AllocError> {
+        let (before, after) = (self.before.explanation, self.after.explanation);
+        let kind = names_for(self.asked, by, before.names(), after.names());
+        let (was, is) = (before.table(alloc, by)?, after.table(alloc, by)?);
+        paired(alloc, kind, before.names(), after.names(), &was, &is)
     }
 
     /// What the parts of two rows are called: by number and name, or by the name alone if their numbers differ; what only one of

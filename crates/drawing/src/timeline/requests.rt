@@ -17,25 +17,33 @@ pub(crate) fn put_requests(
     most: usize,
 ) -> Result<(), AllocError> {
     let stays = explanation.stays();
-    let mut slots = Vec::new(writer.alloc);
-    for _device in 0..net.devices() {
-        slots.push(Slots::new(writer.alloc))?;
-    }
+    let mut slots = slots_for(writer.alloc, net)?;
     let taken = slots_of(writer.alloc, &mut slots, stays)?;
-    for (place, (stay, slot)) in stays.iter().zip(taken.iter()).enumerate() {
+    for (place, (stay, slot)) in stays.iter().zip(&taken).enumerate() {
         let waits = explanation.first_waits(writer.alloc, place, most)?;
-        put_request(
-            writer,
-            explanation.kind(),
-            stay,
-            &waits,
-            track_of(stay.device, *slot),
-        )?;
+        let track = track_of(stay.device, *slot);
+        put_request(writer, explanation.kind(), stay, &waits, track)?;
     }
-    for (device, slots) in (0..net.devices()).zip(slots.iter()) {
-        name_slots(writer, device, slots.count())?;
+    name_all(writer, &slots)
+}
+
+// Names the slots of each device.
+fn name_all(writer: &mut EventWriter, slots: &[Slots]) -> Result<(), AllocError> {
+    let mut device = 0u32;
+    for taken in slots {
+        name_slots(writer, device, taken.count())?;
+        device = device.saturating_add(1);
     }
     Ok(())
+}
+
+// Slots for each device.
+fn slots_for(alloc: Global, net: &Net) -> Result<Vec<Slots>, AllocError> {
+    let mut slots = Vec::new(alloc);
+    for _device in 0..net.devices() {
+        slots.push(Slots::new(alloc))?;
+    }
+    Ok(slots)
 }
 
 // The slot of each stay, taken from those of its device in the order in which the stays arrived; of those of one round the
@@ -45,11 +53,10 @@ fn slots_of(
     slots: &mut [Slots],
     stays: &[ExplainedStay],
 ) -> Result<Vec<u32>, AllocError> {
-    let mut arrivals: Vec<(u32, usize)> = stays
-        .iter()
-        .enumerate()
-        .map(|(place, stay)| (stay.arrival, place))
-        .collect(alloc)?;
+    let mut arrivals = Vec::with_capacity(alloc, stays.len())?;
+    for (place, stay) in stays.iter().enumerate() {
+        arrivals.push((stay.arrival, place))?;
+    }
     arrivals.sort_unstable();
     let mut taken = vec![in alloc; 0u32; stays.len()]?;
     for (arrival, place) in &arrivals {
@@ -88,10 +95,7 @@ fn put_request(
     waits: &FirstWaits,
     track: Track,
 ) -> Result<(), AllocError> {
-    let name = match kind {
-        InputKind::Trace => format!(in writer.alloc; "CCB {} (try {})", stay.ccb, stay.attempt)?,
-        InputKind::Recording => format!(in writer.alloc; "request {}", stay.ccb)?,
-    };
+    let name = name_of(writer.alloc, kind, stay)?;
     let last = stay.live.max(stay.arrival);
     writer.slice(
         track,
@@ -114,6 +118,14 @@ fn put_request(
         put_more(writer, stay, waits, track)?;
     }
     writer.slice(track, "sent", (last, last), &[])
+}
+
+// What a request is called.
+fn name_of(alloc: Global, kind: InputKind, stay: &ExplainedStay) -> Result<String, AllocError> {
+    match kind {
+        InputKind::Trace => format!(in alloc; "CCB {} (try {})", stay.ccb, stay.attempt),
+        InputKind::Recording => format!(in alloc; "request {}", stay.ccb),
+    }
 }
 
 // Puts what a request waited after these waits as one slice, with how many waits they are and what they cost.

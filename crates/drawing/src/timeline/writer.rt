@@ -148,7 +148,7 @@ fn quoted(alloc: Global, words: &str) -> Result<String, AllocError> {
     let Ok(text) = serde_json::to_string(alloc, &words) else {
         return Err(AllocError);
     };
-    if text.bytes().all(|byte| byte < 0x7f) {
+    if is_plain(&text) {
         return Ok(text);
     }
     let mut quoted = String::new(alloc);
@@ -160,4 +160,14 @@ fn quoted(alloc: Global, words: &str) -> Result<String, AllocError> {
         }
     }
     Ok(quoted)
+}
+
+// Whether a text has no byte from U+007F on.
+fn is_plain(text: &str) -> bool {
+    for byte in text.as_bytes() {
+        if *byte >= 0x7f {
+            return false;
+        }
+    }
+    true
 }

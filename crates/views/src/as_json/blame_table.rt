@@ -1,34 +1,33 @@
 //! Who was in the way, by drivers or by run levels.
 
-use crate::as_json::members::{put_member, put_members};
+use crate::as_json::members::{begin_list, put_members};
 use blame::BlameRow;
-use serde::{Described, Serialize, Serializer};
+use serde::Serializer;
 
-/// A table of blame.
-#[derive(Drop)]
-pub(crate) struct Blame {
-    pub(crate) list: Vec<BlameRow>,
+/// Writes a table of blame as a member of the object that is open.
+pub(crate) fn put_blame<S: Serializer>(
+    out: &mut S,
+    key: &str,
+    rows: &[BlameRow],
+) -> Result<(), S::Error> {
+    begin_list(out, key, rows.len())?;
+    for row in rows {
+        put_row(out, row)?;
+    }
+    out.end_seq()
 }
 
-impl Described for Blame {}
-
-impl Serialize for Blame {
-    fn serialize<S: Serializer>(&self, out: &mut S) -> Result<(), S::Error> {
-        out.begin_seq(Some(self.list.len()))?;
-        for row in &self.list {
-            out.begin_map(Some(5))?;
-            put_member(out, "waiting", &row.waiting)?;
-            put_member(out, "by", &row.by)?;
-            put_members(
-                out,
-                &[
-                    ("waited", row.waited),
-                    ("avoidable", row.avoidable),
-                    ("cost", row.cost),
-                ],
-            )?;
-            out.end_map()?;
-        }
-        out.end_seq()
-    }
+// Writes who waited, for whom, how long, and what that cost.
+fn put_row<S: Serializer>(out: &mut S, row: &BlameRow) -> Result<(), S::Error> {
+    out.begin_map(Some(5))?;
+    put_members(out, &[("waiting", Some(row.waiting)), ("by", row.by)])?;
+    put_members(
+        out,
+        &[
+            ("waited", row.waited),
+            ("avoidable", row.avoidable),
+            ("cost", row.cost),
+        ],
+    )?;
+    out.end_map()
 }

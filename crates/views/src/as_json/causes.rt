@@ -2,6 +2,7 @@
 
 use crate::as_json::members::put_member;
 use crate::compare::cost_of;
+use crate::compared::Compared;
 use cam_types::Config;
 use serde::Serializer;
 use wait_causes::{CauseCosts, WaitCause};
@@ -50,12 +51,28 @@ pub(crate) fn put_cause<S: Serializer>(
     Ok(())
 }
 
-/// Writes an object of what each cause cost after a change more than before it: 0 of those that an input doesn't tell.
+/// Writes an object of what each cause cost as a member of the object that is open.
+pub(crate) fn put_causes<S: Serializer>(
+    out: &mut S,
+    input: Compared<'_>,
+    costs: &CauseCosts,
+) -> Result<(), S::Error> {
+    out.key("causes")?;
+    out.begin_map(None)?;
+    for (cause, cost) in &costs.by_cause(input.explanation.kind()) {
+        put_cause(out, input.net.config(), *cause, *cost)?;
+    }
+    out.end_map()
+}
+
+/// Writes an object of what each cause cost after a change more than before it as a member of the object that is open: 0 of those
+/// that an input doesn't tell.
 pub(crate) fn put_cause_shifts<S: Serializer>(
     out: &mut S,
     before: &CauseCosts,
     after: &CauseCosts,
 ) -> Result<(), S::Error> {
+    out.key("causes")?;
     out.begin_map(Some(CAUSES.len()))?;
     for cause in &CAUSES {
         let difference = shift(cost_of(before, *cause), cost_of(after, *cause));

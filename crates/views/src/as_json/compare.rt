@@ -4,16 +4,18 @@ ghost use Rattle.std.specs.Prelude.{◌≡◌, string_bytes, IfOk};
 ghost use Rattle.json.specs.Lex.{tokens};
 ghost use Rattle.json.specs.Print.{print};
 
+use crate::as_json::counts::put_input;
 use crate::as_json::line::line;
-use crate::as_json::members::{put_members, put_object};
+use crate::as_json::members::{Value, begin_list, put_inner, put_members, put_values};
 use crate::as_json::part::{put_costs, put_shifts, waits_of};
 use crate::as_json::row::put_row;
 use crate::compared::Compared;
 use crate::pair::Pair;
+use crate::pairing::Pairing;
 use crate::tables::GROUPINGS;
 use serde::{Described, Serialize, Serializer};
 use std::alloc::{AllocError, Global};
-use wait_causes::{Grouping, PairBy, PairedRow, Part, Row};
+use wait_causes::{Differences, Grouping, PairBy, PairedRow, Part, Row};
 
 // Two inputs, what the stays of each waited, and the rows of their tables in pairs.
 #[derive(Drop)]
@@ -31,23 +33,26 @@ impl Serialize for Comparison<'_> {
     fn serialize<S: Serializer>(&self, out: &mut S) -> Result<(), S::Error> {
         let pair = &self.pair;
         out.begin_map(None)?;
-        put_side(out, "before", pair.before, &self.was)?;
-        put_side(out, "after", pair.after, &self.is)?;
-        out.key("difference")?;
-        put_shifts(out, &self.was, &self.is)?;
-        put_differ(out, pair)?;
-        let (devices, drivers) = (
-            pair.pairing(Grouping::Device),
-            pair.pairing(Grouping::Driver),
-        );
-        out.key("pairing")?;
-        put_object(out, &[("devices", devices), ("drivers", drivers)])?;
+        put_sides(out, pair, &self.was, &self.is)?;
+        put_differ(out, &pair.differences())?;
+        put_pairings(out, pair)?;
         for ((by, _, key), rows) in GROUPINGS.iter().zip(&self.tables) {
-            out.key(key)?;
-            put_rows(out, self.alloc, pair, *by, rows)?;
+            put_table(out, self.alloc, pair, key, *by, rows)?;
         }
         out.end_map()
     }
+}
+
+// Writes what is counted of each input and what all its stays waited, and the difference, as members of the object that is open.
+fn put_sides<S: Serializer>(
+    out: &mut S,
+    pair: &Pair<'_>,
+    was: &Part,
+    is: &Part,
+) -> Result<(), S::Error> {
+    put_side(out, "before", pair.before, was)?;
+    put_side(out, "after", pair.after, is)?;
+    put_shifts(out, was, is)
 }
 
 // Writes what is counted of an input and what all its stays waited, as a member of the object that is open.
@@ -59,19 +64,17 @@ fn put_side<S: Serializer>(
 ) -> Result<(), S::Error> {
     out.key(key)?;
     out.begin_map(None)?;
-    out.flatten_next()?;
-    input.counts().serialize(out)?;
+    put_input(out, input)?;
     put_members(out, &waits_of(whole))?;
     put_costs(out, input, whole)?;
     out.end_map()
 }
 
 // Writes in what the inputs differ beside their requests, as a member of the object that is open.
-fn put_differ<S: Serializer>(out: &mut S, pair: &Pair<'_>) -> Result<(), S::Error> {
-    let differences = pair.differences();
-    out.key("differ")?;
-    put_object(
+fn put_differ<S: Serializer>(out: &mut S, differences: &Differences) -> Result<(), S::Error> {
+    put_inner(
         out,
+        "differ",
         &[
             ("weights", differences.weights),
             ("links", differences.links),
@@ -82,26 +85,64 @@ fn put_differ<S: Serializer>(out: &mut S, pair: &Pair<'_>) -> Result<(), S::Erro
     )
 }
 
-// Writes the pairs of rows of a table by this.
-fn put_rows<S: Serializer>(
+// Writes how the rows of devices and of drivers are paired, as a member of the object that is open.
+fn put_pairings<S: Serializer>(out: &mut S, pair: &Pair<'_>) -> Result<(), S::Error> {
+    out.key("pairing")?;
+    out.begin_map(Some(2))?;
+    put_pairing(out, "devices", pair.pairing(Grouping::Device))?;
+    put_pairing(out, "drivers", pair.pairing(Grouping::Driver))?;
+    out.end_map()
+}
+
+fn put_pairing<S: Serializer>(out: &mut S, key: &str, pairing: Pairing) -> Result<(), S::Error> {
+    let unnamed = match pairing.unnamed {
+        Some(input) => Value::Text(input),
+        None => Value::Absent,
+    };
+    out.key(key)?;
+    out.begin_map(None)?;
+    put_values(
+        out,
+        &[
+            ("by", Value::Text(pairing.by)),
+            ("unnamed", unnamed),
+            ("namesakes", Value::Truth(pairing.namesakes)),
+        ],
+    )?;
+    out.end_map()
+}
+
+// Writes the pairs of rows of a table by this as a member of the object that is open.
+fn put_table<S: Serializer>(
+    out: &mut S,
+    alloc: Global,
+    pair: &Pair<'_>,
+    key: &str,
+    by: Grouping,
+    rows: &[PairedRow],
+) -> Result<(), S::Error> {
+    begin_list(out, key, rows.len())?;
+    for row in rows {
+        put_pair(out, alloc, pair, by, row)?;
+    }
+    out.end_seq()
+}
+
+// Writes a pair of rows of a table by this.
+fn put_pair<S: Serializer>(
     out: &mut S,
     alloc: Global,
     pair: &Pair<'_>,
     by: Grouping,
-    rows: &[PairedRow],
+    row: &PairedRow,
 ) -> Result<(), S::Error> {
-    out.begin_seq(Some(rows.len()))?;
-    for row in rows {
-        out.begin_map(None)?;
-        put_row_of(out, alloc, "before", pair.before, by, &row.before)?;
-        put_row_of(out, alloc, "after", pair.after, by, &row.after)?;
-        if let (Some(before), Some(after)) = (&row.before, &row.after) {
-            out.key("difference")?;
-            put_shifts(out, &before.part, &after.part)?;
-        }
-        out.end_map()?;
+    out.begin_map(None)?;
+    put_row_of(out, alloc, "before", pair.before, by, &row.before)?;
+    put_row_of(out, alloc, "after", pair.after, by, &row.after)?;
+    if let (Some(before), Some(after)) = (&row.before, &row.after) {
+        put_shifts(out, &before.part, &after.part)?;
     }
-    out.end_seq()
+    out.end_map()
 }
 
 // Writes a row of an input, if there is one, as a member of the object that is open.

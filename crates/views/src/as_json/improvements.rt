@@ -5,18 +5,17 @@ ghost use Rattle.json.specs.Lex.{tokens};
 ghost use Rattle.json.specs.Print.{print};
 
 use crate::as_json::line::line;
-use crate::as_json::members::{put_member, put_object};
+use crate::as_json::members::{begin_list, put_member, put_members, put_object};
 use crate::improvements::{WhatIfRow, WhatIfTable};
 use serde::{Described, Serialize, Serializer};
 use std::alloc::{AllocError, Global};
-use wait_causes::Part;
 use wording::{LevelWaits, WaitRanks};
 
 // A table with what was recorded.
 #[derive(Clone, Copy)]
 struct Table<'a> {
     table: WhatIfTable<'a>,
-    whole: Part,
+    live: u64,
 }
 
 impl Described for Table<'_> {}
@@ -25,21 +24,27 @@ impl Serialize for Table<'_> {
     fn serialize<S: Serializer>(&self, out: &mut S) -> Result<(), S::Error> {
         out.begin_map(None)?;
         put_member(out, "trace", &self.table.name)?;
-        put_member(out, "live", &self.whole.live)?;
-        out.key("rows")?;
-        out.begin_seq(Some(self.table.rows.len()))?;
-        for row in self.table.rows {
-            put_row(out, row)?;
-        }
-        out.end_seq()?;
-        out.key("classes")?;
-        out.begin_seq(Some(self.table.waits.len()))?;
-        for level in self.table.waits {
-            put_level(out, level)?;
-        }
-        out.end_seq()?;
+        put_member(out, "live", &self.live)?;
+        put_rows(out, self.table.rows)?;
+        put_levels(out, self.table.waits)?;
         out.end_map()
     }
+}
+
+fn put_rows<S: Serializer>(out: &mut S, rows: &[WhatIfRow]) -> Result<(), S::Error> {
+    begin_list(out, "rows", rows.len())?;
+    for row in rows {
+        put_row(out, row)?;
+    }
+    out.end_seq()
+}
+
+fn put_levels<S: Serializer>(out: &mut S, levels: &[LevelWaits]) -> Result<(), S::Error> {
+    begin_list(out, "classes", levels.len())?;
+    for level in levels {
+        put_level(out, level)?;
+    }
+    out.end_seq()
 }
 
 // Writes the percentiles of the waits of a run level.
@@ -70,20 +75,18 @@ fn put_ranks<S: Serializer>(
 
 // Writes a row: the words of its option, and its costs, of which those of orders may be none.
 fn put_row<S: Serializer>(out: &mut S, row: &WhatIfRow) -> Result<(), S::Error> {
+    let costs = row.costs;
     out.begin_map(Some(4))?;
-    put_member(out, "change", &row.option.as_str())?;
-    put_cost(out, "first_come", row.costs.first_come)?;
-    put_cost(out, "by_weight", row.costs.by_weight)?;
-    put_member(out, "best", &row.costs.best)?;
+    put_member(out, "change", &row.option)?;
+    put_members(
+        out,
+        &[
+            ("first_come", costs.first_come),
+            ("by_weight", costs.by_weight),
+            ("best", Some(costs.best)),
+        ],
+    )?;
     out.end_map()
-}
-
-fn put_cost<S: Serializer>(out: &mut S, key: &str, cost: Option<u64>) -> Result<(), S::Error> {
-    out.key(key)?;
-    match cost {
-        Some(cost) => cost.serialize(out),
-        None => out.unit(),
-    }
 }
 
 /// A line without its line feed: the input's name, what was recorded, the rows with their changes and costs, and for each run level
@@ -91,7 +94,6 @@ fn put_cost<S: Serializer>(out: &mut S, key: &str, cost: Option<u64>) -> Result<
 pub fn what_if_json(alloc: Global, table: WhatIfTable<'_>) -> Result<String, AllocError>
     ensures { IfOk result (λ s. string_bytes s ≡ print (tokens (string_bytes s))) }
 {
-    let whole = table.explanation.whole(alloc)?;
-    let made = Table { table, whole };
-    line(alloc, &made)
+    let live = table.explanation.whole(alloc)?.live;
+    line(alloc, &Table { table, live })
 }

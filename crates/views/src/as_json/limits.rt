@@ -1,25 +1,22 @@
 //! Limits of latency, and how they were kept.
 
-use crate::as_json::members::{put_member, put_members};
+use crate::as_json::members::{begin_list, put_member, put_members};
 use crate::limited::Limited;
-use serde::{Described, Serialize, Serializer};
+use serde::Serializer;
 
-/// The limits that were asked for, in their order.
-#[derive(Drop)]
-pub(crate) struct Limits<'a> {
-    pub(crate) list: &'a [Limited<'a>],
-}
-
-impl Described for Limits<'_> {}
-
-impl Serialize for Limits<'_> {
-    fn serialize<S: Serializer>(&self, out: &mut S) -> Result<(), S::Error> {
-        out.begin_seq(Some(self.list.len()))?;
-        for limit in self.list {
-            put_limit(out, limit)?;
-        }
-        out.end_seq()
+/// Writes how the limits that were asked for were kept as a member of the object that is open, in their order, if there are some.
+pub(crate) fn put_limits<S: Serializer>(
+    out: &mut S,
+    limits: &[Limited<'_>],
+) -> Result<(), S::Error> {
+    if limits.is_empty() {
+        return Ok(());
     }
+    begin_list(out, "slo", limits.len())?;
+    for limit in limits {
+        put_limit(out, limit)?;
+    }
+    out.end_seq()
 }
 
 fn put_limit<S: Serializer>(out: &mut S, limit: &Limited<'_>) -> Result<(), S::Error> {

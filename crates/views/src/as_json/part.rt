@@ -1,7 +1,7 @@
 //! What some stays waited, and what that cost.
 
-use crate::as_json::causes::{put_cause, put_cause_shifts};
-use crate::as_json::members::{put_member, put_members, put_object};
+use crate::as_json::causes::{put_cause_shifts, put_causes};
+use crate::as_json::members::{Value, if_known, put_inner, put_member, put_values};
 use crate::compared::Compared;
 use serde::Serializer;
 use wait_causes::{Latency, Part};
@@ -36,25 +36,19 @@ pub(crate) fn put_costs<S: Serializer>(
     input: Compared<'_>,
     part: &Part,
 ) -> Result<(), S::Error> {
-    put_member(out, "live", &part.live)?;
-    if let Some(pace) = part.pace {
-        put_member(out, "pace", &pace)?;
-    }
-    put_member(out, "best", &part.best)?;
-    put_member(out, "excess", &part.excess())?;
-    out.key("causes")?;
-    out.begin_map(None)?;
-    for (cause, cost) in &part.costs.by_cause(input.explanation.kind()) {
-        put_cause(out, input.net.config(), *cause, *cost)?;
-    }
-    out.end_map()?;
-    out.key("full_behind")?;
-    put_object(out, &behind_of(part))?;
+    put_values(
+        out,
+        &[
+            ("live", Value::Number(part.live)),
+            ("pace", if_known(part.pace)),
+            ("best", Value::Number(part.best)),
+            ("excess", Value::Difference(part.excess())),
+        ],
+    )?;
+    put_causes(out, input, &part.costs)?;
+    put_inner(out, "full_behind", &behind_of(part))?;
     match &part.latency {
-        Some(latency) => {
-            out.key("latency")?;
-            put_object(out, &latency_of(latency))
-        }
+        Some(latency) => put_inner(out, "latency", &latency_of(latency)),
         None => Ok(()),
     }
 }
@@ -71,33 +65,58 @@ fn latency_of(latency: &Latency) -> [(&'static str, u32); 6] {
     ]
 }
 
-/// Writes an object of how much more each number of a part is after a change.
+/// Writes an object of how much more each number of a part is after a change as a member of the object that is open.
 pub(crate) fn put_shifts<S: Serializer>(
     out: &mut S,
     before: &Part,
     after: &Part,
 ) -> Result<(), S::Error> {
+    out.key("difference")?;
     out.begin_map(None)?;
     let (stays, stays_after) = (u64::from(before.stays), u64::from(after.stays));
     put_member(out, "stays", &shift(stays, stays_after))?;
     put_differences(out, &waits_of(before), &waits_of(after))?;
+    put_cost_shifts(out, before, after)?;
+    put_cause_shifts(out, &before.costs, &after.costs)?;
+    put_behind_shifts(out, before, after)?;
+    out.end_map()
+}
+
+// Writes how much more full rows cost after a change, as a member of the object that is open.
+fn put_behind_shifts<S: Serializer>(
+    out: &mut S,
+    before: &Part,
+    after: &Part,
+) -> Result<(), S::Error> {
+    out.key("full_behind")?;
+    out.begin_map(None)?;
+    put_differences(out, &behind_of(before), &behind_of(after))?;
+    out.end_map()
+}
+
+// Writes members of the object that is open: how much more the waiting of a part costs after a change.
+fn put_cost_shifts<S: Serializer>(
+    out: &mut S,
+    before: &Part,
+    after: &Part,
+) -> Result<(), S::Error> {
     let (live, best) = (
         shift(before.live, after.live),
         shift(before.best, after.best),
     );
-    let excess = live.saturating_sub(best);
-    put_member(out, "live", &live)?;
-    if let (Some(was), Some(is)) = (before.pace, after.pace) {
-        put_member(out, "pace", &shift(was, is))?;
-    }
-    put_members(out, &[("best", best), ("excess", excess)])?;
-    out.key("causes")?;
-    put_cause_shifts(out, &before.costs, &after.costs)?;
-    out.key("full_behind")?;
-    out.begin_map(None)?;
-    put_differences(out, &behind_of(before), &behind_of(after))?;
-    out.end_map()?;
-    out.end_map()
+    let pace = match (before.pace, after.pace) {
+        (Some(was), Some(is)) => Value::Difference(shift(was, is)),
+        _ => Value::Absent,
+    };
+    put_values(
+        out,
+        &[
+            ("live", Value::Difference(live)),
+            ("pace", pace),
+            ("best", Value::Difference(best)),
+            ("excess", Value::Difference(live.saturating_sub(best))),
+        ],
+    )
 }
 
 // Writes members of the object that is open: how much more each number is than that of the same place before.

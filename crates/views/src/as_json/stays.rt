@@ -1,33 +1,29 @@
 //! The stays of an explanation, each with its waits.
 
 use crate::as_json::causes::{key_of, put_cause};
-use crate::as_json::members::{put_member, put_members, unless_short};
+use crate::as_json::members::{
+    Value, begin_list, put_member, put_members, put_object, unless_short,
+};
 use crate::compared::Compared;
-use serde::{Described, Serialize, Serializer};
+use serde::Serializer;
 use std::alloc::Global;
 use wait_causes::{ExplainedStay, FirstWaits, Wait, WaitCause};
 
-/// All stays of an input, in creation order, each with at most so many of its waits.
-#[derive(Clone, Copy)]
-pub(crate) struct Stays<'a> {
-    pub(crate) alloc: Global,
-    pub(crate) input: Compared<'a>,
-    pub(crate) most: usize,
-}
-
-impl Described for Stays<'_> {}
-
-impl Serialize for Stays<'_> {
-    fn serialize<S: Serializer>(&self, out: &mut S) -> Result<(), S::Error> {
-        let explanation = self.input.explanation;
-        out.begin_seq(Some(explanation.stays().len()))?;
-        for (place, stay) in explanation.stays().iter().enumerate() {
-            let waits = explanation.first_waits(self.alloc, place, self.most);
-            let waits = unless_short(out, waits)?;
-            put_stay(out, self.input, stay, &waits)?;
-        }
-        out.end_seq()
+/// Writes all stays of an input as a member of the object that is open, in creation order, each with at most so many of its waits.
+pub(crate) fn put_stays<S: Serializer>(
+    out: &mut S,
+    alloc: Global,
+    input: Compared<'_>,
+    most: usize,
+) -> Result<(), S::Error> {
+    let stays = input.explanation.stays();
+    begin_list(out, "list", stays.len())?;
+    for (place, stay) in stays.iter().enumerate() {
+        let waits = input.explanation.first_waits(alloc, place, most);
+        let waits = unless_short(out, waits)?;
+        put_stay(out, input, stay, &waits)?;
     }
+    out.end_seq()
 }
 
 // Writes a stay, where the schedules send it, and why it waited.
@@ -38,6 +34,16 @@ fn put_stay<S: Serializer>(
     waits: &FirstWaits,
 ) -> Result<(), S::Error> {
     out.begin_map(None)?;
+    put_schedules(out, stay)?;
+    put_waits(out, &waits.listed)?;
+    if waits.more > 0 {
+        put_more(out, input, stay, waits)?;
+    }
+    out.end_map()
+}
+
+// Writes what a stay is of, and where the schedules send it.
+fn put_schedules<S: Serializer>(out: &mut S, stay: &ExplainedStay) -> Result<(), S::Error> {
     put_members(
         out,
         &[
@@ -54,23 +60,19 @@ fn put_stay<S: Serializer>(
     if let Some(pace) = stay.pace {
         put_member(out, "pace", &pace)?;
     }
-    put_member(out, "best", &stay.best)?;
-    put_waits(out, &waits.listed)?;
-    if waits.more > 0 {
-        put_more(out, input, stay, waits)?;
-    }
-    out.end_map()
+    put_member(out, "best", &stay.best)
 }
 
 // Writes the waits under their causes' keys.
 fn put_waits<S: Serializer>(out: &mut S, waits: &[Wait]) -> Result<(), S::Error> {
-    out.key("waits")?;
-    out.begin_seq(Some(waits.len()))?;
+    begin_list(out, "waits", waits.len())?;
     for wait in waits {
-        out.begin_map(Some(3))?;
-        put_member(out, "cause", &key_of(wait.cause))?;
-        put_members(out, &[("first", wait.first), ("last", wait.last)])?;
-        out.end_map()?;
+        let members = [
+            ("cause", Value::Text(key_of(wait.cause))),
+            ("first", Value::Number(u64::from(wait.first))),
+            ("last", Value::Number(u64::from(wait.last))),
+        ];
+        put_object(out, &members)?;
     }
     out.end_seq()
 }

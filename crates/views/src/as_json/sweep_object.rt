@@ -5,7 +5,7 @@ ghost use Rattle.json.specs.Lex.{tokens};
 ghost use Rattle.json.specs.Print.{print};
 
 use crate::as_json::line::line;
-use crate::as_json::members::{put_member, put_object, put_path};
+use crate::as_json::members::{begin_list, put_inner, put_member, put_path};
 use crate::swept::Swept;
 use cam_types::Config;
 use serde::{Described, Serialize, Serializer};
@@ -27,17 +27,27 @@ impl Serialize for Sweep<'_> {
         out.begin_map(Some(3))?;
         put_member(out, "script", &swept.name)?;
         put_member(out, "seeds", &swept.plan.seeds())?;
-        out.key("settings")?;
-        out.begin_seq(Some(settings.len()))?;
+        begin_list(out, "settings", settings.len())?;
         for (setting, row) in settings.iter().zip(swept.rows) {
-            out.begin_map(None)?;
-            put_openings(out, self.alloc, swept.config, setting)?;
-            put_figures(out, row)?;
-            out.end_map()?;
+            put_setting(out, self.alloc, swept.config, setting, row)?;
         }
         out.end_seq()?;
         out.end_map()
     }
+}
+
+// Writes a setting with its row.
+fn put_setting<S: Serializer>(
+    out: &mut S,
+    alloc: Global,
+    config: &Config,
+    setting: &Setting,
+    row: &Row,
+) -> Result<(), S::Error> {
+    out.begin_map(None)?;
+    put_openings(out, alloc, config, setting)?;
+    put_figures(out, row)?;
+    out.end_map()
 }
 
 // Writes the openings of a setting: each with its device, which has its path too, or its adapter.
@@ -47,15 +57,23 @@ fn put_openings<S: Serializer>(
     config: &Config,
     setting: &Setting,
 ) -> Result<(), S::Error> {
-    out.key("openings")?;
-    out.begin_seq(Some(setting.changes.len()))?;
+    begin_list(out, "openings", setting.changes.len())?;
     for change in &setting.changes {
-        out.begin_map(None)?;
-        put_place(out, alloc, config, change)?;
-        put_member(out, "openings", &change.openings)?;
-        out.end_map()?;
+        put_change(out, alloc, config, change)?;
     }
     out.end_seq()
+}
+
+fn put_change<S: Serializer>(
+    out: &mut S,
+    alloc: Global,
+    config: &Config,
+    change: &Change,
+) -> Result<(), S::Error> {
+    out.begin_map(None)?;
+    put_place(out, alloc, config, change)?;
+    put_member(out, "openings", &change.openings)?;
+    out.end_map()
 }
 
 fn put_place<S: Serializer>(
@@ -92,9 +110,9 @@ fn put_figures<S: Serializer>(out: &mut S, row: &Row) -> Result<(), S::Error> {
 }
 
 fn put_spread<S: Serializer>(out: &mut S, key: &str, spread: &Spread) -> Result<(), S::Error> {
-    out.key(key)?;
-    put_object(
+    put_inner(
         out,
+        key,
         &[
             ("least", spread.least),
             ("median", spread.median),

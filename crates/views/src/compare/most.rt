@@ -12,7 +12,7 @@ pub(crate) fn push_most_cause(page: &mut Page, pair: &Pair<'_>, was: &Part, is: 
     page.put("\n");
     push_change(page, was.live, is.live);
     if let Some(cause) = most_changed_cause(pair, was, is) {
-        page.show(format_args!("Of the causes {} changed most", cause.name()));
+        page.words(&["Of the causes ", cause.name(), " changed most"]);
         push_from_to(page, cost_of(&was.costs, cause), cost_of(&is.costs, cause));
     }
 }
@@ -26,8 +26,9 @@ pub(crate) fn push_most_rows(
 ) -> Result<(), AllocError> {
     for ((by, words, _), rows) in GROUPINGS.iter().zip(tables) {
         if let Some(row) = most_changed(rows) {
-            let caption = pair.caption(alloc, *by, &row)?;
-            page.show(format_args!("Of the {words} {caption} changed most"));
+            page.words(&["Of the ", words, " "]);
+            page.put(&pair.caption(alloc, *by, &row)?);
+            page.put(" changed most");
             push_from_to(page, live_of(&row.before), live_of(&row.after));
         }
     }
@@ -49,7 +50,7 @@ fn push_change(page: &mut Page, before: u64, after: u64) {
         return;
     }
     let how = if after < before { "fell" } else { "rose" };
-    page.show(format_args!("What the waiting cost {how} by "));
+    page.words(&["What the waiting cost ", how, " by "]);
     push_number(page, before.abs_diff(after));
     if before > 0 {
         page.put(", ");

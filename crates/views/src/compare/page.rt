@@ -26,21 +26,38 @@ pub fn compare_page(
         after,
     };
     let mut page = Page::new(alloc);
-    let (name, name_after) = (
-        shown_name(alloc, before.name)?,
-        shown_name(alloc, after.name)?,
-    );
-    page.show(format_args!("before  {name}\nafter   {name_after}\n"));
-    let (was, is) = (
-        before.explanation.whole(alloc)?,
-        after.explanation.whole(alloc)?,
-    );
-    push_differences(alloc, &mut page, &pair)?;
-    push_totals(&mut page, &was, &is);
-    push_causes(&mut page, &pair, &was, &is);
-    push_most_cause(&mut page, &pair, &was, &is);
-    let tables = pair.tables(alloc)?;
-    push_most_rows(alloc, &mut page, &pair, &tables)?;
-    push_rows(alloc, &mut page, &pair, &tables)?;
+    push_names(alloc, &mut page, &pair)?;
+    push_whole(alloc, &mut page, &pair)?;
+    push_tables(alloc, &mut page, &pair)?;
     page.finish()
+}
+
+// Puts what the inputs are called on the page.
+fn push_names(alloc: Global, page: &mut Page, pair: &Pair<'_>) -> Result<(), AllocError> {
+    page.put("before  ");
+    page.put(&shown_name(alloc, pair.before.name)?);
+    page.put("\nafter   ");
+    page.put(&shown_name(alloc, pair.after.name)?);
+    page.put("\n");
+    Ok(())
+}
+
+// Puts what changed most of each table on the page, and the tables.
+fn push_tables(alloc: Global, page: &mut Page, pair: &Pair<'_>) -> Result<(), AllocError> {
+    let tables = pair.tables(alloc)?;
+    push_most_rows(alloc, page, pair, &tables)?;
+    push_rows(alloc, page, pair, &tables)
+}
+
+// Puts in what the inputs differ on the page, and what all stays of each waited.
+fn push_whole(alloc: Global, page: &mut Page, pair: &Pair<'_>) -> Result<(), AllocError> {
+    let (was, is) = (
+        pair.before.explanation.whole(alloc)?,
+        pair.after.explanation.whole(alloc)?,
+    );
+    push_differences(alloc, page, pair)?;
+    push_totals(page, &was, &is);
+    push_causes(page, pair, &was, &is);
+    push_most_cause(page, pair, &was, &is);
+    Ok(())
 }

@@ -19,24 +19,25 @@ pub(crate) fn push_rows(
     pair: &Pair<'_>,
     tables: &[Vec<PairedRow>],
 ) -> Result<(), AllocError> {
-    let width = pair
-        .before
-        .captions()
-        .width()
-        .max(pair.after.captions().width());
+    let width = width_of(pair);
     page.show(format_args!("\n{:<width$} {PAIRS}\n{:<width$} {HEAD}\n", "", ""));
     for ((by, _, _), rows) in GROUPINGS.iter().zip(tables) {
         for row in rows {
-            let caption = pair.caption(alloc, *by, row)?;
-            page.show(format_args!("{caption:<width$}"));
-            push_row(page, row);
+            push_row(page, &pair.caption(alloc, *by, row)?, width, row);
         }
     }
     Ok(())
 }
 
-// Puts the numbers of a row on the page.
-fn push_row(page: &mut Page, row: &PairedRow) {
+// How wide the column of captions is.
+fn width_of(pair: &Pair<'_>) -> usize {
+    let (before, after) = (pair.before.captions(), pair.after.captions());
+    before.width().max(after.width())
+}
+
+// Puts what a row is called in this width on the page, and its numbers.
+fn push_row(page: &mut Page, caption: &str, width: usize, row: &PairedRow) {
+    page.show(format_args!("{caption:<width$}"));
     let (was, is) = (numbers_of(&row.before), numbers_of(&row.after));
     push_columns(
         page,

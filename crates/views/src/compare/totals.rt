@@ -8,13 +8,9 @@ use wording::{Page, push_share, shift};
 /// Puts on the page how many stays there were, how long they waited and what that cost, before and after.
 pub(crate) fn push_totals(page: &mut Page, before: &Part, after: &Part) {
     push_head(page, "");
-    for ((name, was), (_, is)) in totals_of(before).iter().zip(&totals_of(after)) {
-        push_line(page, name, *was, *is);
-    }
+    push_lines(page, &totals_of(before), &totals_of(after));
     if let (Some(was), Some(is)) = (before.pace, after.pace) {
-        for ((name, was), (_, is)) in parts_of(before, was).iter().zip(&parts_of(after, is)) {
-            push_line(page, name, *was, *is);
-        }
+        push_lines(page, &parts_of(before, was), &parts_of(after, is));
     }
 }
 
@@ -56,9 +52,7 @@ pub(crate) fn push_causes(page: &mut Page, pair: &Pair<'_>, was: &Part, is: &Par
         }
     }
     push_head(page, "behind");
-    for ((name, was), (_, is)) in behind_rows(was).iter().zip(&behind_rows(is)) {
-        push_line(page, name, *was, *is);
-    }
+    push_lines(page, &behind_rows(was), &behind_rows(is));
 }
 
 // Puts the cost of a cause on the page, if it can hold before or after.
@@ -92,6 +86,13 @@ fn push_head(page: &mut Page, name: &str) {
         "\n{name:<18} {:>15} {:>15} {:>15}\n",
         "before", "after", "difference"
     ));
+}
+
+// Puts the numbers of two lists on the page, with their names.
+fn push_lines(page: &mut Page, before: &[(&str, u64)], after: &[(&str, u64)]) {
+    for ((name, was), (_, is)) in before.iter().zip(after) {
+        push_line(page, name, *was, *is);
+    }
 }
 
 // Puts two numbers and their difference on the page, and what that is of the first.

@@ -3,7 +3,7 @@
 use crate::improvements::{WhatIfRow, WhatIfTable};
 use crate::text::push_level_waits;
 use std::alloc::{AllocError, Global};
-use wording::{Captions, Page, push_number, spelled};
+use wording::{Captions, Page, push_number, push_numbers, push_time};
 
 // How wide the column of words is, and one of costs.
 const WORDS: usize = 40;
@@ -17,12 +17,8 @@ pub fn what_if_page(alloc: Global, table: WhatIfTable<'_>) -> Result<String, All
     let mut page = Page::new(alloc);
     let whole = table.explanation.whole(alloc)?;
     let unit = table.explanation.unit();
-    page.put("recorded: ");
-    push_number(&mut page, whole.live);
-    page.put(" weighted rounds");
-    if unit.is_some() {
-        page.show(format_args!(" ({})", spelled(alloc, unit, whole.live)?));
-    }
+    push_numbers(&mut page, &[("recorded: ", whole.live)], " weighted rounds");
+    push_time(&mut page, unit, whole.live);
     page.show(format_args!(
         "\n\n{:<WORDS$}{:>COST$}{:>COST$}{:>COST$}\n",
         "", "first come", "by weight", "best"
@@ -39,24 +35,20 @@ pub fn what_if_page(alloc: Global, table: WhatIfTable<'_>) -> Result<String, All
 // Puts a row on the page.
 fn push_row(alloc: Global, page: &mut Page, row: &WhatIfRow) -> Result<(), AllocError> {
     page.show(format_args!("{:<WORDS$}", row.words));
-    for cost in [
-        row.costs.first_come,
-        row.costs.by_weight,
-        Some(row.costs.best),
-    ] {
-        let shown = match cost {
-            Some(cost) => grouped(alloc, cost)?,
-            None => String::from_str(alloc, "not in time")?,
-        };
-        page.show(format_args!("{shown:>COST$}"));
-    }
+    push_cost(alloc, page, row.costs.first_come)?;
+    push_cost(alloc, page, row.costs.by_weight)?;
+    push_cost(alloc, page, Some(row.costs.best))?;
     page.put("\n");
     Ok(())
 }
 
-// A number with commas between its thousands.
-fn grouped(alloc: Global, number: u64) -> Result<String, AllocError> {
-    let mut page = Page::new(alloc);
-    push_number(&mut page, number);
-    page.finish()
+// Puts a cost on the page, with commas between its thousands, or that not all are sent in time.
+fn push_cost(alloc: Global, page: &mut Page, cost: Option<u64>) -> Result<(), AllocError> {
+    let mut shown = Page::new(alloc);
+    match cost {
+        Some(cost) => push_number(&mut shown, cost),
+        None => shown.put("not in time"),
+    }
+    page.show(format_args!("{:>COST$}", shown.finish()?));
+    Ok(())
 }

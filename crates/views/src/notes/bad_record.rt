@@ -67,19 +67,30 @@ pub(crate) fn push_reason(
     } else {
         ("trace", OF_TRACES)
     };
-    for (of, limited, name, most) in &LIMITS {
-        if *of == kind
-            && begins_with(&row, limited)
-            && count(alloc, text, record, limited) > *most
-        {
-            return writeln!(note, "  there are {most} {name} before it, the most");
-        }
+    if let Some((most, name)) = passed_limit(alloc, text, record, kind, &row) {
+        return writeln!(note, "  there are {most} {name} before it, the most");
     }
     if begins_with(&row, words) {
         note.push_str("  no record of this word can stand here\n")
     } else {
         writeln!(note, "  no record of a {kind} begins with this word")
     }
+}
+
+// How many records like this one a text of this kind has at most, and what they are called, if there are more up to it.
+fn passed_limit(
+    alloc: Global,
+    text: &[u8],
+    record: u32,
+    kind: &str,
+    row: &ByteRecord,
+) -> Option<(usize, &'static str)> {
+    for (of, limited, name, most) in &LIMITS {
+        if *of == kind && begins_with(row, limited) && count(alloc, text, record, limited) > *most {
+            return Some((*most, *name));
+        }
+    }
+    None
 }
 
 // Whether the header is that of a script. A byte-order mark and empty lines before it are no part of it.
@@ -94,15 +105,12 @@ fn is_script(alloc: Global, text: &[u8]) -> bool {
 fn count(alloc: Global, text: &[u8], number: u32, words: &[&str]) -> usize {
     let (mut left, mut count) = (number, 0usize);
     for row in records(alloc, text) {
-        let Ok(row) = row else {
-            return count;
-        };
-        if left == 0 {
-            return count;
-        }
-        left -= 1;
-        if begins_with(&row, words) {
-            count = count.saturating_add(1);
+        match row {
+            Ok(row) if left > 0 => {
+                left -= 1;
+                count = count.saturating_add(usize::from(begins_with(&row, words)));
+            }
+            _ => return count,
         }
     }
     count
@@ -111,5 +119,10 @@ fn count(alloc: Global, text: &[u8], number: u32, words: &[&str]) -> usize {
 // Whether the record begins with one of the words.
 fn begins_with(row: &ByteRecord, words: &[&str]) -> bool {
     let first = row.get(0).unwrap_or(&[]);
-    words.iter().any(|word| word.as_bytes() == first)
+    for word in words {
+        if word.as_bytes() == first {
+            return true;
+        }
+    }
+    false
 }

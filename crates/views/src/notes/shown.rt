@@ -63,8 +63,10 @@ fn printable(alloc: Global, line: &[u8]) -> Result<String, AllocError> {
 
 /// The text up to the first end of a line.
 pub(crate) fn first_line(text: &[u8]) -> &[u8] {
-    match text.split(|byte| matches!(*byte, b'\n' | b'\r')).next() {
-        Some(line) => line,
-        None => text,
+    for (at, byte) in text.iter().enumerate() {
+        if matches!(*byte, b'\n' | b'\r') {
+            return text.get(..at).unwrap_or(text);
+        }
     }
+    text
 }

@@ -12,6 +12,16 @@ const COST: usize = 9;
 
 const ROUNDS: usize = 8;
 
+// What stands above the columns of one seed.
+const HEAD: &str = "      live      best    excess      p99\n";
+
+// What stands above the columns of several seeds: above three each, and above each.
+const SPREAD_HEADS: &str =
+    "                live                          best                        excess                         p99\n";
+
+const SPREADS: &str =
+    "     least    median  greatest     least    median  greatest     least    median  greatest    least   median greatest\n";
+
 /// The table of a sweep: a row for each setting, with what its runs' waiting cost live and in a best schedule, how much of that
 /// could have been avoided, and the rounds that 99 in a hundred stays didn't pass. Of several seeds it has the least, the median
 /// and the greatest of each; of one seed just the number. The row of a setting of which a run didn't drain says so, and how many
@@ -20,10 +30,6 @@ pub fn sweep_page(alloc: Global, swept: Swept<'_>) -> Result<String, AllocError>
     let mut page = Page::new(alloc);
     let (settings, seeds) = (swept.plan.settings(), swept.plan.seeds());
     page.put(&shown_name(alloc, swept.name)?);
-    match seeds {
-        1 => page.put(", run by seed 1\n\n"),
-        _ => page.show(format_args!(", run by seeds 1 to {seeds}\n\n")),
-    }
     let titles = match settings.first() {
         Some(setting) => titles(alloc, swept.config, &setting.changes)?,
         None => Vec::new(alloc),
@@ -38,23 +44,16 @@ pub fn sweep_page(alloc: Global, swept: Swept<'_>) -> Result<String, AllocError>
 // Puts what stands above the columns on the page.
 fn push_head(page: &mut Page, titles: &[String], seeds: u32) {
     if seeds == 1 {
+        page.put(", run by seed 1\n\n");
         push_titles(page, titles);
-        page.show(format_args!(
-            " {:>COST$} {:>COST$} {:>COST$} {:>ROUNDS$}\n",
-            "live", "best", "excess", "p99"
-        ));
+        page.put(HEAD);
         return;
     }
+    page.show(format_args!(", run by seeds 1 to {seeds}\n\n"));
     push_blank(page, titles);
-    for name in &["live", "best", "excess"] {
-        page.show(format_args!("{name:>20}{:>10}", ""));
-    }
-    page.put("               p99\n");
+    page.put(SPREAD_HEADS);
     push_titles(page, titles);
-    for _ in 0..3 {
-        page.put("     least    median  greatest");
-    }
-    page.put("    least   median greatest\n");
+    page.put(SPREADS);
 }
 
 // Puts the row of a setting on the page.

@@ -1,10 +1,11 @@
 //! Who was in the way: a sentence on the pair that cost most, and the tables.
 
+use crate::text::columns::{push_caption, push_spelled};
 use blame::BlameRow;
 use recording_file::Span;
 use std::alloc::{AllocError, Global};
 use wait_causes::Grouping;
-use wording::{Captions, Page, push_number, push_rounds, spelled};
+use wording::{Captions, Page, push_number, push_rounds, push_span};
 
 // What stands above the columns.
 const COLUMNS: &str = "  waited avoidable       cost";
@@ -12,29 +13,21 @@ const COLUMNS: &str = "  waited avoidable       cost";
 /// Puts a sentence on the page on the pair of drivers that cost most: who waited, for whom, and how much another order would have
 /// avoided of that. The rows are in the order of their costs.
 pub(crate) fn push_worst_pair(
-    alloc: Global,
     page: &mut Page,
     captions: Captions<'_>,
     unit: Option<Span>,
     rows: &[BlameRow],
-) -> Result<(), AllocError> {
+) {
     for row in rows {
         if let Some(by) = row.by {
-            return push_pair(alloc, page, captions, unit, row, by);
+            push_pair(page, captions, unit, row, by);
+            return;
         }
     }
-    Ok(())
 }
 
 // Puts the sentence on this pair on the page.
-fn push_pair(
-    alloc: Global,
-    page: &mut Page,
-    captions: Captions<'_>,
-    unit: Option<Span>,
-    row: &BlameRow,
-    by: u32,
-) -> Result<(), AllocError> {
+fn push_pair(page: &mut Page, captions: Captions<'_>, unit: Option<Span>, row: &BlameRow, by: u32) {
     page.put("\n");
     push_driver(page, captions, "Driver", by);
     page.put(" made ");
@@ -44,18 +37,20 @@ fn push_pair(
         push_driver(page, captions, "driver", row.waiting);
     }
     page.put(" wait ");
-    if unit.is_some() {
-        page.put(&spelled(alloc, unit, row.waited)?);
-        page.put(", of which ");
-        page.put(&spelled(alloc, unit, row.avoidable)?);
-        page.put(" was avoidable by order.\n");
-    } else {
-        push_rounds(page, None, row.waited);
-        page.put(", of which ");
-        push_number(page, row.avoidable);
-        page.put(" were avoidable by order.\n");
+    match unit {
+        Some(span) => {
+            push_span(page, span, row.waited);
+            page.put(", of which ");
+            push_span(page, span, row.avoidable);
+            page.put(" was avoidable by order.\n");
+        }
+        None => {
+            push_rounds(page, None, row.waited);
+            page.put(", of which ");
+            push_number(page, row.avoidable);
+            page.put(" were avoidable by order.\n");
+        }
     }
-    Ok(())
 }
 
 // A driver by its name, or by this word and its number.
@@ -78,18 +73,41 @@ pub(crate) fn push_blame(
     let width = captions.width();
     page.show(format_args!("\n{:<width$} {:<width$} {COLUMNS}\n", "waiting", "for"));
     for row in rows {
-        let waiting = captions.caption(alloc, by, row.waiting)?;
-        page.show(format_args!("{waiting:<width$} "));
-        match row.by {
-            Some(number) => {
-                let caption = captions.caption(alloc, by, number)?;
-                page.show(format_args!("{caption:<width$}"));
-            }
-            None => page.show(format_args!("{:<width$}", "nobody")),
-        }
-        let waited = spelled(alloc, unit, row.waited)?;
-        let avoidable = spelled(alloc, unit, row.avoidable)?;
-        page.show(format_args!(" {waited:>8} {avoidable:>9} {:>10}\n", row.cost));
+        push_names(alloc, page, captions, by, row)?;
+        push_numbers(alloc, page, unit, row)?;
     }
+    Ok(())
+}
+
+// Puts who waited in a row on the page, and for whom.
+fn push_names(
+    alloc: Global,
+    page: &mut Page,
+    captions: Captions<'_>,
+    by: Grouping,
+    row: &BlameRow,
+) -> Result<(), AllocError> {
+    let width = captions.width();
+    push_caption(alloc, page, captions, by, row.waiting, width)?;
+    page.put(" ");
+    match row.by {
+        Some(number) => push_caption(alloc, page, captions, by, number, width)?,
+        None => page.show(format_args!("{:<width$}", "nobody")),
+    }
+    Ok(())
+}
+
+// Puts the numbers of a row on the page.
+fn push_numbers(
+    alloc: Global,
+    page: &mut Page,
+    unit: Option<Span>,
+    row: &BlameRow,
+) -> Result<(), AllocError> {
+    page.put(" ");
+    push_spelled(alloc, page, unit, row.waited, 8)?;
+    page.put(" ");
+    push_spelled(alloc, page, unit, row.avoidable, 9)?;
+    page.show(format_args!(" {:>10}\n", row.cost));
     Ok(())
 }

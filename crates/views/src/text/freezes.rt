@@ -1,6 +1,5 @@
 //! The freezes that cost most.
 
-use crate::text::columns::push_columns;
 use std::alloc::{AllocError, Global};
 use wait_causes::{Freeze, FreezeKind, Grouping};
 use wording::{Captions, Page};
@@ -34,15 +33,10 @@ pub(crate) fn push_freezes(
 fn push_freeze(page: &mut Page, name: &str, freeze: &Freeze) {
     let by = frozen_by(freeze.kind);
     page.show(format_args!("  {name:<17} {by:<8}"));
-    push_columns(
-        page,
-        &[
-            (6, i128::from(freeze.first)),
-            (5, i128::from(freeze.last)),
-            (9, i128::from(freeze.cost)),
-        ],
-    );
-    page.put("\n");
+    page.show(format_args!(
+        " {:>6} {:>5} {:>9}\n",
+        freeze.first, freeze.last, freeze.cost
+    ));
 }
 
 /// Who froze.

@@ -3,6 +3,7 @@
 use crate::behind::behind_rows;
 use crate::limited::Limited;
 use crate::text::blame_table::{push_blame, push_worst_pair};
+use crate::text::columns::push_spelled;
 use crate::text::freezes::push_freezes;
 use crate::text::level_waits::push_level_waits;
 use crate::text::limits::push_limits;
@@ -12,13 +13,13 @@ use crate::text::tables::push_tables;
 use crate::text::totals::{push_by_weight, push_totals};
 use crate::text::weights::push_weights;
 use crate::text::worst::push_worst;
-use blame::blame_of;
+use blame::{BlameRow, blame_of};
 use cam_types::Config;
 use recording_file::Span;
 use round_net::Net;
 use std::alloc::{AllocError, Global};
-use wait_causes::{Explanation, Grouping, InputKind, Part};
-use wording::{ByWeight, Captions, LevelWaits, Page, level_waits, plain_words, spelled};
+use wait_causes::{ExplainedStay, Explanation, Freeze, Grouping, InputKind, Part};
+use wording::{ByWeight, Captions, LevelWaits, Page, level_waits, plain_words};
 
 // What stands below the costs by cause.
 const NO_SAVING: &str =
@@ -41,16 +42,13 @@ pub fn page(
 ) -> Result<String, AllocError> {
     let mut page = Page::new(alloc);
     let (config, whole) = (net.config(), explanation.whole(alloc)?);
-    let unit = explanation.unit().filter(|_| has_times);
-    push_totals(alloc, &mut page, unit, net.rounds(), &whole)?;
-    if let Some(made) = by_weight {
-        push_by_weight(alloc, &mut page, unit, &whole, made.cost)?;
-    }
+    let unit = if has_times { explanation.unit() } else { None };
+    push_whole(alloc, &mut page, unit, net.rounds(), &whole, by_weight)?;
     push_limits(&mut page, limits);
     push_weights(&mut page, config);
     let captions = Captions::of(config, explanation);
     let drivers = blame_of(alloc, explanation, Grouping::Driver)?;
-    push_worst_pair(alloc, &mut page, captions, unit, &drivers)?;
+    push_worst_pair(&mut page, captions, unit, &drivers);
     let waits = level_waits(alloc, explanation, by_weight)?;
     push_costs(
         alloc,
@@ -63,12 +61,40 @@ pub fn page(
         unit,
     )?;
     if has_blame {
-        page.put("\nWho was in the way of whom:\n");
-        let levels = blame_of(alloc, explanation, Grouping::Level)?;
-        push_blame(alloc, &mut page, captions, unit, Grouping::Driver, &drivers)?;
-        push_blame(alloc, &mut page, captions, unit, Grouping::Level, &levels)?;
+        push_blames(alloc, &mut page, captions, explanation, unit, &drivers)?;
     }
     page.finish()
+}
+
+// Puts what the waiting cost on the page, and what it would have cost by weight.
+fn push_whole(
+    alloc: Global,
+    page: &mut Page,
+    unit: Option<Span>,
+    rounds: u32,
+    whole: &Part,
+    by_weight: Option<&ByWeight>,
+) -> Result<(), AllocError> {
+    push_totals(alloc, page, unit, rounds, whole)?;
+    match by_weight {
+        Some(made) => push_by_weight(alloc, page, unit, whole, made.cost),
+        None => Ok(()),
+    }
+}
+
+// Puts who was in the way of whom on the page, by drivers and by run levels.
+fn push_blames(
+    alloc: Global,
+    page: &mut Page,
+    captions: Captions<'_>,
+    explanation: &Explanation,
+    unit: Option<Span>,
+    drivers: &[BlameRow],
+) -> Result<(), AllocError> {
+    page.put("\nWho was in the way of whom:\n");
+    push_blame(alloc, page, captions, unit, Grouping::Driver, drivers)?;
+    let levels = blame_of(alloc, explanation, Grouping::Level)?;
+    push_blame(alloc, page, captions, unit, Grouping::Level, &levels)
 }
 
 // Puts what cost most on the page, and the cost by cause and in tables.
@@ -83,10 +109,8 @@ fn push_costs(
     unit: Option<Span>,
 ) -> Result<(), AllocError> {
     let (stays, freezes) = (explanation.stays(), explanation.freezes(alloc)?);
-    let costs: Vec<u64> = stays.iter().map(|stay| stay.cost()).collect(alloc)?;
-    let worst_stays = most_first(alloc, &costs)?;
-    let costs: Vec<u64> = freezes.iter().map(|freeze| freeze.cost).collect(alloc)?;
-    let worst_freezes = most_first(alloc, &costs)?;
+    let worst_stays = worst_stays(alloc, stays)?;
+    let worst_freezes = worst_freezes(alloc, &freezes)?;
     push_worst(
         alloc,
         page,
@@ -96,6 +120,21 @@ fn push_costs(
         first_of(stays, &worst_stays),
         first_of(&freezes, &worst_freezes),
     )?;
+    push_parts(alloc, page, captions, explanation, whole, waits, unit)?;
+    push_freezes(alloc, page, captions, &freezes, &worst_freezes, top)?;
+    push_stays(alloc, page, captions, explanation, unit, &worst_stays, top)
+}
+
+// Puts the cost by cause and in tables on the page, and how long the stays of each run level wait.
+fn push_parts(
+    alloc: Global,
+    page: &mut Page,
+    captions: Captions<'_>,
+    explanation: &Explanation,
+    whole: &Part,
+    waits: &[LevelWaits],
+    unit: Option<Span>,
+) -> Result<(), AllocError> {
     push_causes(
         alloc,
         page,
@@ -107,9 +146,25 @@ fn push_costs(
     push_behind(alloc, page, whole, unit)?;
     push_tables(alloc, page, captions, explanation, unit)?;
     page.put("\nHow long they wait as recorded, by weight and in the best schedule:\n\n");
-    push_level_waits(alloc, page, captions, waits, unit)?;
-    push_freezes(alloc, page, captions, &freezes, &worst_freezes, top)?;
-    push_stays(alloc, page, captions, explanation, unit, &worst_stays, top)
+    push_level_waits(alloc, page, captions, waits, unit)
+}
+
+// The places of the stays, those that cost most first.
+fn worst_stays(alloc: Global, stays: &[ExplainedStay]) -> Result<Vec<usize>, AllocError> {
+    let mut costs = Vec::with_capacity(alloc, stays.len())?;
+    for stay in stays {
+        costs.push(stay.cost())?;
+    }
+    most_first(alloc, &costs)
+}
+
+// The places of the freezes, those that cost most first.
+fn worst_freezes(alloc: Global, freezes: &[Freeze]) -> Result<Vec<usize>, AllocError> {
+    let mut costs = Vec::with_capacity(alloc, freezes.len())?;
+    for freeze in freezes {
+        costs.push(freeze.cost)?;
+    }
+    most_first(alloc, &costs)
 }
 
 // Puts the costs by cause on the page.
@@ -159,8 +214,8 @@ fn push_cost(
 ) -> Result<(), AllocError> {
     page.show(format_args!("  {name:<18} {cost:>9}"));
     if unit.is_some() {
-        let time = spelled(alloc, unit, cost)?;
-        page.show(format_args!("  {time:>8}"));
+        page.put("  ");
+        push_spelled(alloc, page, unit, cost, 8)?;
     }
     if !words.is_empty() {
         page.show(format_args!("  {words}"));

@@ -1,14 +1,16 @@
 //! How long the stays of each run level wait by three schedules.
 
+use crate::text::columns::{push_caption, push_spelled};
 use recording_file::Span;
 use std::alloc::{AllocError, Global};
 use wait_causes::Grouping;
-use wording::{Captions, LevelWaits, Page, WaitRanks, spelled};
+use wording::{Captions, LevelWaits, Page, WaitRanks};
 
-// How wide a column of waits is, and the three of a schedule.
-const WAIT: usize = 9;
-
-const WAITS: usize = 27;
+// What stands above the waits: a column has 9 characters, after 16 for the run level.
+const HEAD: &str = "\
+waits                              recorded                  by weight                       best
+                      p50      p99    p99.9      p50      p99    p99.9      p50      p99    p99.9
+";
 
 /// Puts the percentiles of the waits of each run level on the page: as recorded, by weight, and in the best schedule.
 pub(crate) fn push_level_waits(
@@ -18,23 +20,25 @@ pub(crate) fn push_level_waits(
     waits: &[LevelWaits],
     unit: Option<Span>,
 ) -> Result<(), AllocError> {
-    page.show(format_args!(
-        "{:<16}{:>WAITS$}{:>WAITS$}{:>WAITS$}\n",
-        "waits", "recorded", "by weight", "best"
-    ));
-    page.show(format_args!("{:<16}", ""));
-    for _ in 0..3 {
-        page.show(format_args!("{:>WAIT$}{:>WAIT$}{:>WAIT$}", "p50", "p99", "p99.9"));
-    }
-    page.put("\n");
+    page.put(HEAD);
     for level in waits {
-        let caption = captions.caption(alloc, Grouping::Level, level.level)?;
-        page.show(format_args!("{caption:<16}"));
-        push_ranks(alloc, page, Some(level.recorded), unit)?;
-        push_ranks(alloc, page, level.by_weight, unit)?;
-        push_ranks(alloc, page, Some(level.best), unit)?;
-        page.put("\n");
+        push_caption(alloc, page, captions, Grouping::Level, level.level, 16)?;
+        push_level(alloc, page, level, unit)?;
     }
+    Ok(())
+}
+
+// Puts the percentiles of a run level on the page.
+fn push_level(
+    alloc: Global,
+    page: &mut Page,
+    level: &LevelWaits,
+    unit: Option<Span>,
+) -> Result<(), AllocError> {
+    push_ranks(alloc, page, Some(level.recorded), unit)?;
+    push_ranks(alloc, page, level.by_weight, unit)?;
+    push_ranks(alloc, page, Some(level.best), unit)?;
+    page.put("\n");
     Ok(())
 }
 
@@ -45,13 +49,12 @@ fn push_ranks(
     ranks: Option<WaitRanks>,
     unit: Option<Span>,
 ) -> Result<(), AllocError> {
-    let Some(WaitRanks { p50, p99, p999 }) = ranks else {
-        page.show(format_args!("{:>WAIT$}{:>WAIT$}{:>WAIT$}", "-", "-", "-"));
+    let Some(ranks) = ranks else {
+        page.put("        -        -        -");
         return Ok(());
     };
-    for wait in [p50, p99, p999] {
-        let shown = spelled(alloc, unit, u64::from(wait))?;
-        page.show(format_args!("{shown:>WAIT$}"));
+    for wait in &[ranks.p50, ranks.p99, ranks.p999] {
+        push_spelled(alloc, page, unit, u64::from(*wait), 9)?;
     }
     Ok(())
 }

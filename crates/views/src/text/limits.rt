@@ -1,7 +1,7 @@
 //! Limits of latency.
 
 use crate::limited::Limited;
-use wording::{Page, push_number};
+use wording::{Page, push_numbers};
 
 /// Puts on the page how each limit was kept, if one was asked for.
 pub(crate) fn push_limits(page: &mut Page, limits: &[Limited<'_>]) {
@@ -12,16 +12,17 @@ pub(crate) fn push_limits(page: &mut Page, limits: &[Limited<'_>]) {
     for limit in limits {
         let counts = limit.counts;
         let kept = if counts.met { "met" } else { "missed" };
-        page.show(format_args!("  {:<24} {kept:<6}  ", limit.word));
-        push_number(page, u64::from(counts.over));
-        page.put(" of ");
-        push_number(page, u64::from(counts.requests));
-        page.put(" took longer: ");
-        push_number(page, u64::from(counts.by_order));
-        page.put(" by order, ");
-        push_number(page, u64::from(counts.by_slots));
-        page.put(" by idle slots, ");
-        push_number(page, u64::from(counts.device));
-        page.put(" by the device\n");
+        page.show(format_args!("  {:<24} {kept:<6}", limit.word));
+        push_numbers(
+            page,
+            &[
+                ("  ", u64::from(counts.over)),
+                (" of ", u64::from(counts.requests)),
+                (" took longer: ", u64::from(counts.by_order)),
+                (" by order, ", u64::from(counts.by_slots)),
+                (" by idle slots, ", u64::from(counts.device)),
+            ],
+            " by the device\n",
+        );
     }
 }

@@ -1,10 +1,10 @@
 //! The stays that cost most.
 
-use crate::text::columns::push_columns;
+use crate::text::columns::push_spelled;
 use recording_file::Span;
 use std::alloc::{AllocError, Global};
 use wait_causes::{ExplainedStay, Explanation, InputKind};
-use wording::{Captions, Page, push_range, push_time, shortened, spelled};
+use wording::{Captions, Page, push_range, push_time, shortened};
 
 // What stands above the stays of a trace, and above the requests of a recording.
 const TRACE_HEAD: &str = "\nThe stays whose waiting cost most:\n\n  CCB try";
@@ -41,15 +41,29 @@ pub(crate) fn push_stays(
         if let Some(stay) = stays.get(*place) {
             let device = shortened(alloc, &captions.device(alloc, stay.device)?)?;
             push_stay(alloc, page, kind, unit, &device, width, stay)?;
-            push_waits(page, kind, stay, width.saturating_add(before_waits(kind)));
-            push_span(page, unit, stay);
         }
     }
     Ok(())
 }
 
-// The columns of a stay on a device that is called so, up to its causes.
+// A stay on a device that is called so, to the end of its last line.
 fn push_stay(
+    alloc: Global,
+    page: &mut Page,
+    kind: InputKind,
+    unit: Option<Span>,
+    device: &str,
+    width: usize,
+    stay: &ExplainedStay,
+) -> Result<(), AllocError> {
+    push_numbers(alloc, page, kind, unit, device, width, stay)?;
+    push_waits(page, kind, stay, width.saturating_add(before_waits(kind)));
+    push_span(page, unit, stay);
+    Ok(())
+}
+
+// The columns of a stay, up to its causes.
+fn push_numbers(
     alloc: Global,
     page: &mut Page,
     kind: InputKind,
@@ -63,19 +77,13 @@ fn push_stay(
         InputKind::Recording => page.show(format_args!("{:>9}", stay.ccb)),
     }
     page.show(format_args!("  {device:<width$}"));
-    push_columns(
-        page,
-        &[
-            (8, i128::from(stay.priority)),
-            (7, i128::from(stay.arrival)),
-            (5, i128::from(stay.live)),
-        ],
-    );
+    page.show(format_args!(" {:>8} {:>7} {:>5}", stay.priority, stay.arrival, stay.live));
     if let Some(pace) = stay.pace {
-        push_columns(page, &[(5, i128::from(pace))]);
+        page.show(format_args!(" {pace:>5}"));
     }
-    let cost = spelled(alloc, unit, stay.cost())?;
-    page.show(format_args!(" {:>5} {cost:>9}  ", stay.best));
+    page.show(format_args!(" {:>5} ", stay.best));
+    push_spelled(alloc, page, unit, stay.cost(), 9)?;
+    page.put("  ");
     Ok(())
 }
 

@@ -2,12 +2,12 @@
 
 use crate::behind::behind_rows;
 use crate::tables::{GROUPINGS, tables_of};
-use crate::text::columns::push_columns;
+use crate::text::columns::{push_caption, push_columns, push_spelled};
 use cam_types::Config;
 use recording_file::Span;
 use std::alloc::{AllocError, Global};
 use wait_causes::{Explanation, InputKind, Part, Row, WaitCause};
-use wording::{Captions, Page, shift, spelled};
+use wording::{Captions, Page, shift};
 
 // What stands above the columns of waits of a trace, and of a recording.
 const TRACE_WAITS: &str =
@@ -50,32 +50,38 @@ pub(crate) fn push_tables(
     unit: Option<Span>,
 ) -> Result<(), AllocError> {
     let (tables, kind) = (tables_of(alloc, explanation)?, explanation.kind());
-    let width = captions.width();
-    page.show(format_args!(
-        "\n{:<width$} {}\n",
-        "",
-        match kind {
-            InputKind::Trace => TRACE_WAITS,
-            InputKind::Recording => RECORDING_WAITS,
-        }
-    ));
+    page.put("\n");
+    match kind {
+        InputKind::Trace => push_head(page, captions, &[TRACE_WAITS]),
+        InputKind::Recording => push_head(page, captions, &[RECORDING_WAITS]),
+    }
     push_rows(alloc, page, captions, &tables, Columns::Waits(unit))?;
     if has_latencies(&tables) {
-        page.show(format_args!(
-            "\nFrom arrival to completion:\n\n{:<width$} {LATENCIES}\n",
-            ""
-        ));
+        page.put("\nFrom arrival to completion:\n\n");
+        push_head(page, captions, &[LATENCIES]);
         push_rows(alloc, page, captions, &tables, Columns::Latencies(unit))?;
     }
     push_cost_head(page, captions, kind);
     push_rows(alloc, page, captions, &tables, Columns::Costs(kind))
 }
 
+// What stands above columns, behind those of captions.
+fn push_head(page: &mut Page, captions: Captions<'_>, words: &[&str]) {
+    page.show(format_args!("{:<width$} ", "", width = captions.width()));
+    page.words(words);
+    page.put("\n");
+}
+
 // Whether completions are known.
 fn has_latencies(tables: &[Vec<Row>]) -> bool {
-    tables
-        .iter()
-        .any(|rows| rows.iter().any(|row| row.part.latency.is_some()))
+    for rows in tables {
+        for row in rows {
+            if row.part.latency.is_some() {
+                return true;
+            }
+        }
+    }
+    false
 }
 
 // Puts these columns of all rows on the page.
@@ -88,16 +94,27 @@ fn push_rows(
 ) -> Result<(), AllocError> {
     for ((by, _, _), rows) in GROUPINGS.iter().zip(tables) {
         for row in rows {
-            let caption = captions.caption(alloc, *by, row.number)?;
-            page.show(format_args!("{caption:<width$}", width = captions.width()));
-            match columns {
-                Columns::Waits(unit) => push_waits(alloc, page, unit, &row.part)?,
-                Columns::Latencies(unit) => push_latencies(alloc, page, unit, &row.part)?,
-                Columns::Costs(kind) => push_costs(page, captions.config(), kind, &row.part),
-            }
-            page.put("\n");
+            push_caption(alloc, page, captions, *by, row.number, captions.width())?;
+            push_row(alloc, page, captions, &row.part, columns)?;
         }
     }
+    Ok(())
+}
+
+// Puts these columns of a row on the page.
+fn push_row(
+    alloc: Global,
+    page: &mut Page,
+    captions: Captions<'_>,
+    part: &Part,
+    columns: Columns,
+) -> Result<(), AllocError> {
+    match columns {
+        Columns::Waits(unit) => push_waits(alloc, page, unit, part)?,
+        Columns::Latencies(unit) => push_latencies(alloc, page, unit, part)?,
+        Columns::Costs(kind) => push_costs(page, captions.config(), kind, part),
+    }
+    page.put("\n");
     Ok(())
 }
 
@@ -113,11 +130,10 @@ fn push_waits(
         return Ok(());
     };
     page.show(format_args!(" {:>8}", part.stays));
+    page.put(" ");
+    push_spelled(alloc, page, unit, part.waited, 8)?;
     let ranks = [part.p50, part.p90, part.p99, part.p999, part.max];
-    push_span(alloc, page, unit, part.waited)?;
-    for rank in &ranks {
-        push_span(alloc, page, unit, u64::from(*rank))?;
-    }
+    push_ranks(alloc, page, unit, &ranks)?;
     push_columns(
         page,
         &[
@@ -141,27 +157,27 @@ fn push_latencies(
         return Ok(());
     };
     page.show(format_args!(" {:>8}", latency.stays));
-    for rank in &[
+    let ranks = [
         latency.p50,
         latency.p90,
         latency.p99,
         latency.p999,
         latency.max,
-    ] {
-        push_span(alloc, page, unit, u64::from(*rank))?;
-    }
-    Ok(())
+    ];
+    push_ranks(alloc, page, unit, &ranks)
 }
 
-// Rounds, or a time where a round has one, flush right.
-fn push_span(
+// Rounds, or times where a round has one, flush right after a space each.
+fn push_ranks(
     alloc: Global,
     page: &mut Page,
     unit: Option<Span>,
-    rounds: u64,
+    ranks: &[u32],
 ) -> Result<(), AllocError> {
-    let shown = spelled(alloc, unit, rounds)?;
-    page.show(format_args!(" {shown:>8}"));
+    for rank in ranks {
+        page.put(" ");
+        push_spelled(alloc, page, unit, u64::from(*rank), 8)?;
+    }
     Ok(())
 }
 
@@ -193,8 +209,8 @@ fn push_cost_head(page: &mut Page, captions: Captions<'_>, kind: InputKind) {
         InputKind::Recording => RECORDING_COSTS,
     };
     let link_full = if has_links { "    l.full" } else { "" };
-    let width = captions.width();
-    page.show(format_args!("\n{:<width$} {costs}{link_full} {LAST_COSTS}\n", ""));
+    page.put("\n");
+    push_head(page, captions, &[costs, link_full, " ", LAST_COSTS]);
 }
 
 // What the stays of a row cost.

@@ -1,9 +1,10 @@
 //! What the waiting cost, at the top of the page.
 
+use crate::text::columns::push_spelled;
 use recording_file::Span;
 use std::alloc::{AllocError, Global};
 use wait_causes::Part;
-use wording::{Page, nanoseconds, push_nanoseconds, push_number, push_share, push_span, spelled};
+use wording::{Page, nanoseconds, push_nanoseconds, push_numbers, push_share, push_span};
 
 // What the order by weight is.
 const BY_WEIGHT: &str = "the heaviest first as they came, which needs no hindsight";
@@ -37,34 +38,63 @@ pub(crate) fn push_by_weight(
     whole: &Part,
     cost: u64,
 ) -> Result<(), AllocError> {
-    let shown = spelled(alloc, unit, cost)?;
     match whole.pace {
-        Some(_) => page.show(format_args!("{:<15} {shown:>10}  {BY_WEIGHT}", "by weight")),
-        None => page.show(format_args!("{:<13} {shown:>9}  {BY_WEIGHT}", "by weight")),
+        Some(_) => push_named(alloc, page, unit, "by weight", cost)?,
+        None => push_line(page, "by weight", cost, "  "),
     }
-    if unit.is_some() {
-        page.put(" (");
-        push_number(page, cost);
-        page.put(")");
-    }
-    page.put("\n");
+    push_meaning(page, unit, BY_WEIGHT, cost);
     Ok(())
 }
 
 // Those of a trace.
 fn push_traced(page: &mut Page, whole: &Part) {
     let excess = whole.live.saturating_sub(whole.best);
-    page.show(format_args!("stays         {:>9}  requests in a queue\n", whole.stays));
-    page.show(format_args!("waited rounds {:>9}\n", whole.waited));
-    page.show(format_args!(
-        "live cost     {:>9}  the recorded wait, by weight\n",
-        whole.live
-    ));
-    page.show(format_args!("best cost     {:>9}  the least possible\n", whole.best));
-    page.show(format_args!("excess        {excess:>9}  avoidable"));
+    push_line(
+        page,
+        "stays",
+        u64::from(whole.stays),
+        "  requests in a queue\n",
+    );
+    push_line(page, "waited rounds", whole.waited, "\n");
+    push_line(
+        page,
+        "live cost",
+        whole.live,
+        "  the recorded wait, by weight\n",
+    );
+    push_line(page, "best cost", whole.best, "  the least possible\n");
+    push_line(page, "excess", excess, "  avoidable");
     if whole.live > 0 {
         page.put(", ");
         push_share(page, excess, whole.live);
+    }
+    page.put("\n");
+}
+
+// A number of a trace with its name before it, and these words behind it.
+fn push_line(page: &mut Page, name: &str, number: u64, words: &str) {
+    page.show(format_args!("{name:<13} {number:>9}{words}"));
+}
+
+// A number of a recording with its name before it.
+fn push_named(
+    alloc: Global,
+    page: &mut Page,
+    unit: Option<Span>,
+    name: &str,
+    rounds: u64,
+) -> Result<(), AllocError> {
+    page.show(format_args!("{name:<15} "));
+    push_spelled(alloc, page, unit, rounds, 10)?;
+    page.put("  ");
+    Ok(())
+}
+
+// What a cost is, to the end of its line: where it was shown as a time, with its weighted rounds.
+fn push_meaning(page: &mut Page, unit: Option<Span>, words: &str, cost: u64) {
+    page.put(words);
+    if unit.is_some() {
+        push_numbers(page, &[(" (", cost)], ")");
     }
     page.put("\n");
 }
@@ -82,8 +112,15 @@ fn push_requests(
         page.put(" of ");
         push_span(page, span, 1);
     }
-    let waited = spelled(alloc, unit, whole.waited)?;
-    page.show(format_args!("\n{:<15} {waited:>10}", "waited"));
+    page.put("\nwaited          ");
+    push_spelled(alloc, page, unit, whole.waited, 10)?;
+    push_average(page, unit, whole);
+    page.put("\n");
+    Ok(())
+}
+
+// How long a request waited on the average, if it is known how long a round is.
+fn push_average(page: &mut Page, unit: Option<Span>, whole: &Part) {
     match unit {
         Some(span) if whole.stays > 0 => {
             let all = u128::from(nanoseconds(span)).saturating_mul(u128::from(whole.waited));
@@ -94,8 +131,6 @@ fn push_requests(
         Some(_) => {}
         None => page.put("  rounds"),
     }
-    page.put("\n");
-    Ok(())
 }
 
 // What the waiting of a recording cost, and the three parts of that.
@@ -106,38 +141,61 @@ fn push_costs(
     whole: &Part,
     pace: u64,
 ) -> Result<(), AllocError> {
-    let costs = [
-        (
-            "cost",
-            whole.live,
-            "what was waited, each request by its weight",
-        ),
-        (
-            "  by order",
-            whole.live.saturating_sub(pace),
-            "avoidable by another order alone",
-        ),
-        (
-            "  by idle slots",
-            pace.saturating_sub(whole.best),
-            "avoidable by starts that there was room for",
-        ),
-        ("  needed", whole.best, "the least that the devices allow"),
-    ];
-    for (place, (name, cost, words)) in costs.iter().enumerate() {
-        let shown = spelled(alloc, unit, *cost)?;
-        page.show(format_args!("{name:<15} {shown:>10}  "));
-        if place > 0 && whole.live > 0 {
-            push_share(page, *cost, whole.live);
-            page.put(", ");
-        }
-        page.put(words);
-        if unit.is_some() {
-            page.put(" (");
-            push_number(page, *cost);
-            page.put(")");
-        }
-        page.put("\n");
+    let (by_order, by_slots) = (
+        whole.live.saturating_sub(pace),
+        pace.saturating_sub(whole.best),
+    );
+    push_named(alloc, page, unit, "cost", whole.live)?;
+    push_meaning(
+        page,
+        unit,
+        "what was waited, each request by its weight",
+        whole.live,
+    );
+    push_part(
+        alloc,
+        page,
+        unit,
+        whole,
+        "  by order",
+        by_order,
+        "avoidable by another order alone",
+    )?;
+    push_part(
+        alloc,
+        page,
+        unit,
+        whole,
+        "  by idle slots",
+        by_slots,
+        "avoidable by starts that there was room for",
+    )?;
+    push_part(
+        alloc,
+        page,
+        unit,
+        whole,
+        "  needed",
+        whole.best,
+        "the least that the devices allow",
+    )
+}
+
+// A part of the cost, with its share in the whole.
+fn push_part(
+    alloc: Global,
+    page: &mut Page,
+    unit: Option<Span>,
+    whole: &Part,
+    name: &str,
+    cost: u64,
+    words: &str,
+) -> Result<(), AllocError> {
+    push_named(alloc, page, unit, name, cost)?;
+    if whole.live > 0 {
+        push_share(page, cost, whole.live);
+        page.put(", ");
     }
+    push_meaning(page, unit, words, cost);
     Ok(())
 }

@@ -76,11 +76,16 @@ pub(crate) fn script(alloc: Global, shell: Shell) -> Result<String, AllocError> 
 // Puts the names of the subcommands after the script, each with a space after it.
 fn push_names(script: &mut String) -> Result<(), AllocError> {
     for group in subcommands() {
-        for subcommand in group {
-            write!(script, "{} ", subcommand.name)?;
-        }
+        push_names_of(script, group)?;
     }
     script.push_str("help ")
+}
+
+fn push_names_of(script: &mut String, group: &[Subcommand]) -> Result<(), AllocError> {
+    for subcommand in group {
+        write!(script, "{} ", subcommand.name)?;
+    }
+    Ok(())
 }
 
 fn push_cases(alloc: Global, script: &mut String, shell: &Cases) -> Result<(), AllocError> {
@@ -88,13 +93,23 @@ fn push_cases(alloc: Global, script: &mut String, shell: &Cases) -> Result<(), A
     push_names(script)?;
     script.push_str(shell.middle)?;
     for group in subcommands() {
-        for subcommand in group {
-            push_case(alloc, script, shell, subcommand)?;
-        }
+        push_cases_of(alloc, script, shell, group)?;
     }
     write!(script, "            help) {}", shell.open)?;
     push_names(script)?;
     write!(script, "{}{}", shell.alone, shell.tail)
+}
+
+fn push_cases_of(
+    alloc: Global,
+    script: &mut String,
+    shell: &Cases,
+    group: &[Subcommand],
+) -> Result<(), AllocError> {
+    for subcommand in group {
+        push_case(alloc, script, shell, subcommand)?;
+    }
+    Ok(())
 }
 
 // Puts the case of a subcommand after the script. Files complete the arguments of each that takes no shell's name.
@@ -128,9 +143,7 @@ fn push_fish(alloc: Global, script: &mut String) -> Result<(), AllocError> {
     push_names(script)?;
     script.push_str(FISH_MIDDLE)?;
     for group in subcommands() {
-        for subcommand in group {
-            push_fish_lines(alloc, script, subcommand)?;
-        }
+        push_fish_lines(alloc, script, group)?;
     }
     write!(script, "{FISH_WORD}help\" -f -a \"")?;
     push_names(script)?;
@@ -140,12 +153,15 @@ fn push_fish(alloc: Global, script: &mut String) -> Result<(), AllocError> {
 fn push_fish_lines(
     alloc: Global,
     script: &mut String,
-    subcommand: &Subcommand,
+    group: &[Subcommand],
 ) -> Result<(), AllocError> {
-    for word in subcommand.words {
-        push_fish_line(alloc, script, subcommand.name, *word)?;
+    for subcommand in group {
+        for word in subcommand.words {
+            push_fish_line(alloc, script, subcommand.name, *word)?;
+        }
+        push_fish_line(alloc, script, subcommand.name, VERBOSE)?;
     }
-    push_fish_line(alloc, script, subcommand.name, VERBOSE)
+    Ok(())
 }
 
 // Puts the line of fish on an argument of the subcommand of this name after the script, unless files complete it.

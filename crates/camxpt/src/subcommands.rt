@@ -469,9 +469,19 @@ pub fn command<'a>(alloc: Global) -> Result<Command<'a>, AllocError> {
             "Exit status: 0 done, 1 not proved, 2 refused words, 3 refused input, 4 a file, read or write that failed, 5 no memory, 6 no thread, or threads that did what the script doesn't allow, 7 a run that didn't drain, with --require-drained",
         );
     for group in subcommands() {
-        for subcommand in group {
-            command = command.subcommand(subcommand.command(alloc)?)?;
-        }
+        command = with_group(alloc, command, group)?;
+    }
+    Ok(command)
+}
+
+fn with_group<'a>(
+    alloc: Global,
+    command: Command<'a>,
+    group: &[Subcommand],
+) -> Result<Command<'a>, AllocError> {
+    let mut command = command;
+    for subcommand in group {
+        command = command.subcommand(subcommand.command(alloc)?)?;
     }
     Ok(command)
 }

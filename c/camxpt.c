@@ -25,6 +25,8 @@ const char *camxpt_code_name(camxpt_code code)
     case CAMXPT_E_REQUESTS: return "TooManyRequests";
     case CAMXPT_E_CAP: return "BadCap";
     case CAMXPT_E_DONE: return "BadDone";
+    case CAMXPT_E_WRITE: return "WriteFailed";
+    case CAMXPT_E_WINDOW: return "NoWindow";
     case CAMXPT_HISTORY_FULL: return "HistoryFull";
     case CAMXPT_NO_DEVICE: return "NoDevice";
     case CAMXPT_NO_ADAPTER: return "NoAdapter";
@@ -72,6 +74,17 @@ const char *camxpt_code_name(camxpt_code code)
     case CAMXPT_CAUSE_DEVICE_FULL: return "CauseDeviceFull";
     case CAMXPT_CAUSE_ADAPTER_FULL: return "CauseAdapterFull";
     case CAMXPT_CAUSE_LINK_FULL: return "CauseLinkFull";
+    case CAMXPT_NOTE_NO_DEVICE: return "NoteNoDevice";
+    case CAMXPT_NOTE_NO_DRIVER: return "NoteNoDriver";
+    case CAMXPT_NOTE_BAD_PRIORITY: return "NoteBadPriority";
+    case CAMXPT_NOTE_TIME_FALLS: return "NoteTimeFalls";
+    case CAMXPT_NOTE_ALREADY_OPEN: return "NoteAlreadyOpen";
+    case CAMXPT_NOTE_FULL: return "NoteFull";
+    case CAMXPT_NOTE_NOT_OPEN: return "NoteNotOpen";
+    case CAMXPT_NOTE_ALREADY_STARTED: return "NoteAlreadyStarted";
+    case CAMXPT_NOTE_NOT_STARTED: return "NoteNotStarted";
+    case CAMXPT_NOTE_BEFORE_ARRIVAL: return "NoteBeforeArrival";
+    case CAMXPT_NOTE_BEFORE_START: return "NoteBeforeStart";
     default: return "Unknown";
     }
 }
@@ -316,4 +329,164 @@ camxpt_code camxpt_recording(const camxpt_config *c, const camxpt_span *unit, ui
                                 first.count, unit ? unit : &no_span, rounds, caps ? caps : &no_cap, cap_count,
                                 requests ? requests : &no_request, request_count, buffer ? (uint8_t *)buffer : &no_byte, room,
                                 needed, wrong);
+}
+
+/* ---- recorder ----------------------------------------------------------------------------------------------------------- */
+
+/* How a window ends. */
+enum { WHOLE = 0, BEFORE = 1, LAST_START = 2 };
+
+/* How many bytes of a recording are written at once. */
+enum { PIECE = 16384 };
+
+/* What is wrong with a recorder that has to be open. */
+static camxpt_code bad_recorder(const camxpt_recorder *r)
+{
+    if (!r)
+        return CAMXPT_E_NULL;
+    if (r->self_ == r)
+        return CAMXPT_OK;
+    return r->self_ ? CAMXPT_E_COPIED : CAMXPT_E_CLOSED;
+}
+
+/* Adds devices and drivers, until one can't be added. */
+static camxpt_code add_names(camxpt_recorder *r, const camxpt_recorder_options *o)
+{
+    camxpt_code code = CAMXPT_OK;
+
+    for (size_t k = 0; k < o->device_count && code == CAMXPT_OK; k++) {
+        const char *name = o->devices[k].name;
+
+        code = name ? camxpt_raw_recorder_add_device(&r->raw_, (const uint8_t *)name, strlen(name), o->devices[k].depth)
+                    : (camxpt_code)CAMXPT_E_NULL;
+    }
+    for (size_t k = 0; k < o->driver_count && code == CAMXPT_OK; k++) {
+        const char *name = o->drivers[k];
+
+        code = name ? camxpt_raw_recorder_add_driver(&r->raw_, (const uint8_t *)name, strlen(name)) : (camxpt_code)CAMXPT_E_NULL;
+    }
+    return code;
+}
+
+camxpt_code camxpt_recorder_open(camxpt_recorder *r, const camxpt_recorder_options *o)
+{
+    camxpt_code code;
+
+    if (!r || !o || !o->write || (!o->devices && o->device_count) || (!o->drivers && o->driver_count))
+        return CAMXPT_E_NULL;
+    if (r->self_)
+        return r->self_ == r ? CAMXPT_E_OPEN : CAMXPT_E_COPIED;
+    code = camxpt_raw_recorder_open(&r->raw_, &o->round, o->window_ns, o->room);
+    if (code != CAMXPT_OK)
+        return code;
+    code = add_names(r, o);
+    if (code != CAMXPT_OK) {
+        (void)camxpt_raw_recorder_close(&r->raw_);
+        return code;
+    }
+    r->write_ = o->write;
+    r->user_ = o->user;
+    r->lost_ = r->stuck_ = false;
+    r->self_ = r;
+    return CAMXPT_OK;
+}
+
+/* Writes all bytes of the window that was made. */
+static bool write_window(camxpt_recorder *r, camxpt_window *window)
+{
+    uint8_t piece[PIECE];
+    size_t size = 0;
+
+    for (window->offset = 0; window->offset < window->size; window->offset += size) {
+        if (camxpt_raw_recorder_read(&r->raw_, window->offset, piece, sizeof piece, &size) != CAMXPT_OK || size == 0 ||
+            r->write_(r->user_, window, piece, size) != 0)
+            return false;
+    }
+    return true;
+}
+
+/* Makes and writes all windows that are over, or that end so, until one can't be made. If the next one can't be made either, that
+ * stays so. */
+static camxpt_code write_windows(camxpt_recorder *r, uint32_t ending)
+{
+    camxpt_window window;
+    camxpt_code code;
+
+    memset(&window, 0, sizeof window);
+    while ((code = camxpt_raw_recorder_make(&r->raw_, ending, &window)) == CAMXPT_OK) {
+        r->lost_ = false;
+        if (!write_window(r, &window))
+            return CAMXPT_E_WRITE;
+        (void)camxpt_raw_recorder_written(&r->raw_);
+    }
+    if (code == CAMXPT_E_WINDOW) {
+        r->stuck_ = r->lost_;
+        r->lost_ = true;
+    }
+    return code == CAMXPT_NONE ? (camxpt_code)CAMXPT_OK : code;
+}
+
+/* After a note that was answered so: writes what is over. */
+static camxpt_code after_note(camxpt_recorder *r, camxpt_code code)
+{
+    if (code != CAMXPT_OK || camxpt_raw_recorder_is_due(&r->raw_) != CAMXPT_OK)
+        return code;
+    return r->stuck_ ? (camxpt_code)CAMXPT_E_WINDOW : write_windows(r, WHOLE);
+}
+
+#define NOTE(r, call) (bad_recorder(r) != CAMXPT_OK ? bad_recorder(r) : after_note((r), (call)))
+
+camxpt_code camxpt_note_arrival(camxpt_recorder *r, uint64_t id, uint32_t device, uint8_t driver, uint32_t priority, uint64_t ns)
+{
+    camxpt_code code = bad_recorder(r), made;
+
+    if (code != CAMXPT_OK)
+        return code;
+    code = camxpt_raw_note_arrival(&r->raw_, id, device, driver, priority, ns);
+    if (code != CAMXPT_NOTE_FULL)
+        return after_note(r, code);
+    /* the window is cut off where nothing more can be noted, whether it can be written or not */
+    made = r->stuck_ ? (camxpt_code)CAMXPT_E_WINDOW : write_windows(r, BEFORE);
+    code = camxpt_raw_note_arrival(&r->raw_, id, device, driver, priority, ns);
+    return made == CAMXPT_OK ? after_note(r, code) : code == CAMXPT_OK ? made : code;
+}
+
+camxpt_code camxpt_note_start(camxpt_recorder *r, uint64_t id, uint64_t ns)
+{
+    return NOTE(r, camxpt_raw_note_start(&r->raw_, id, ns));
+}
+
+camxpt_code camxpt_note_done(camxpt_recorder *r, uint64_t id, uint64_t ns)
+{
+    return NOTE(r, camxpt_raw_note_done(&r->raw_, id, ns));
+}
+
+camxpt_code camxpt_note_cancel(camxpt_recorder *r, uint64_t id)
+{
+    return NOTE(r, camxpt_raw_note_cancel(&r->raw_, id));
+}
+
+camxpt_code camxpt_recorder_close(camxpt_recorder *r)
+{
+    camxpt_code code = bad_recorder(r);
+    bool lost = false;
+
+    if (code != CAMXPT_OK)
+        return code;
+    while ((code = write_windows(r, LAST_START)) == CAMXPT_E_WINDOW && !r->stuck_)
+        lost = true;
+    if (code != CAMXPT_OK && code != CAMXPT_E_WINDOW)
+        return code;
+    (void)camxpt_recorder_abandon(r);
+    return lost ? (camxpt_code)CAMXPT_E_WINDOW : code;
+}
+
+camxpt_code camxpt_recorder_abandon(camxpt_recorder *r)
+{
+    const camxpt_code bad = bad_recorder(r);
+
+    if (bad != CAMXPT_OK)
+        return bad;
+    r->self_ = NULL;
+    return camxpt_raw_recorder_close(&r->raw_);
 }

@@ -17,13 +17,15 @@
  *     wrong pointer is noticed.
  *   - No call comes from a signal handler, or in the child of a fork of a process with threads. Memory is this program's
  *     malloc, realloc and free. Only camxpt_open, camxpt_open_with, camxpt_carry, camxpt_trace and camxpt_recording ask for
- *     any. A longjmp out of malloc loses the handle: it answers CAMXPT_E_CLOSED then, and its memory isn't freed.
- *   - The stack has 128 kB or more where camxpt_trace and camxpt_recording are called.
+ *     any, and of a recorder's calls camxpt_recorder_open and those that make a window. A longjmp out of malloc loses the handle:
+ *     it answers CAMXPT_E_CLOSED then, and its memory isn't freed.
+ *   - The stack has 128 kB or more where camxpt_trace and camxpt_recording are called, and where a recorder makes a window.
  *
  * A transport takes 65,535 events, 512 rounds and 4,096 stays at most (a stay is one passage of a CCB through its queue, so a
  * submit or a requeue begins one). A driver that runs longer carries what waits over to a fresh transport by camxpt_carry, at
  * the end of a round in which all results are in. If it keeps its requests in an array, camxpt_recording writes what all the
- * transports did as one recording, for `camxpt audit`. docs/c.md shows how.
+ * transports did as one recording, for `camxpt audit`. docs/c.md shows how. A driver that has a scheduler of its own notes what it
+ * does to a recorder (camxpt_recorder_open), which writes recordings of it, window by window.
  *
  * Link with libcamxpt.a or libcamxpt.so.1: cc driver.c -lcamxpt
  */
@@ -78,6 +80,8 @@ enum {
     CAMXPT_E_REQUESTS = -11, /**< there are more than 1,048,576 requests */
     CAMXPT_E_CAP = -12,      /**< a cap can't be one of the recording */
     CAMXPT_E_DONE = -13,     /**< a request was completed before it was started */
+    CAMXPT_E_WRITE = -14,    /**< a recorder's write function failed */
+    CAMXPT_E_WINDOW = -15,   /**< there is no recording of a window, and its requests are lost */
     /* refusals: the first one that holds, in this order; nothing has changed */
     CAMXPT_HISTORY_FULL = 1,
     CAMXPT_NO_DEVICE = 2,
@@ -130,7 +134,19 @@ enum {
     CAMXPT_CAUSE_LATE = 68,
     CAMXPT_CAUSE_DEVICE_FULL = 69,
     CAMXPT_CAUSE_ADAPTER_FULL = 70,
-    CAMXPT_CAUSE_LINK_FULL = 71
+    CAMXPT_CAUSE_LINK_FULL = 71,
+    /* why a recorder doesn't take a note: the first cause that holds, in this order; nothing has changed */
+    CAMXPT_NOTE_NO_DEVICE = 80,       /**< it has no device of this number */
+    CAMXPT_NOTE_NO_DRIVER = 81,       /**< it has no driver of this number */
+    CAMXPT_NOTE_BAD_PRIORITY = 82,    /**< the priority is above 1279 */
+    CAMXPT_NOTE_TIME_FALLS = 83,      /**< the time is more than a second before the latest one noted */
+    CAMXPT_NOTE_ALREADY_OPEN = 84,    /**< a request of this id is open already */
+    CAMXPT_NOTE_FULL = 85,            /**< there is no room for one more request */
+    CAMXPT_NOTE_NOT_OPEN = 86,        /**< no request of this id is open */
+    CAMXPT_NOTE_ALREADY_STARTED = 87, /**< the request was started already */
+    CAMXPT_NOTE_NOT_STARTED = 88,     /**< the request wasn't started yet */
+    CAMXPT_NOTE_BEFORE_ARRIVAL = 89,  /**< the request would be started before it arrived */
+    CAMXPT_NOTE_BEFORE_START = 90     /**< the request would be done before it was started */
 };
 
 /** Whether the code says that a lane had nothing to send. */
@@ -363,6 +379,56 @@ typedef struct camxpt_request {
     uint32_t done;
 } camxpt_request;
 
+/** A device of a recorder: its name, and how many requests it serves at once at most, or 0 if that isn't known. */
+typedef struct camxpt_recorder_device {
+    const char *name;
+    uint32_t depth;
+} camxpt_recorder_device;
+
+/** A window of a recorder, and which bytes of its recording are given. Times are those that were noted. */
+typedef struct camxpt_window {
+    uint64_t number;   /**< from 1 on; windows in which nothing was started are counted, but not written */
+    uint64_t from_ns;  /**< when its first round begins */
+    uint64_t until_ns; /**< when its last round is over */
+    uint64_t requests; /**< how many requests were started in it */
+    uint64_t carried;  /**< what these waited before it, in weighted rounds */
+    uint32_t rounds;   /**< how many rounds it has */
+    size_t size;       /**< how many bytes its recording has */
+    size_t offset;     /**< where in it the bytes begin that are given */
+} camxpt_window;
+
+/** Writes bytes of a window's recording: in order, in pieces of at most 64 kB, the first with offset 0, and the last with
+ *  offset + size of its bytes == window->size. Answers 0 if they were written. A call with this
+ *  recorder out of it is the caller's fault, and isn't noticed. */
+typedef int (*camxpt_write)(void *user, const camxpt_window *window, const void *bytes, size_t size);
+
+/** What a recorder records: how long a round is (with the count 0 it is as is usual for the first window), how long a window is,
+ *  which is a whole number of rounds, at most 65,534; how many requests it keeps at most until a window is over (room), 1 to
+ *  16,777,216; up to 32 devices and up to 256 drivers by their names, and who writes. */
+typedef struct camxpt_recorder_options {
+    camxpt_span round;
+    uint64_t window_ns;
+    uint32_t room;
+    const camxpt_recorder_device *devices;
+    size_t device_count;
+    const char *const *drivers;
+    size_t driver_count;
+    camxpt_write write;
+    void *user;
+} camxpt_recorder_options;
+
+/** A recorder. All members are the library's: self_ is its own address while it is open, which tells a copy. */
+typedef struct camxpt_recorder {
+    camxpt_raw raw_;
+    const struct camxpt_recorder *self_;
+    camxpt_write write_;
+    void *user_;
+    bool lost_, stuck_;
+} camxpt_recorder;
+
+/** A closed recorder. */
+#define CAMXPT_RECORDER_INIT { { NULL, 0 }, NULL, NULL, NULL, false, false }
+
 #if SIZE_MAX != UINT64_MAX
 #error "camxpt.h: the library is for 64-bit targets"
 #endif
@@ -451,6 +517,15 @@ CAMXPT_AT_(camxpt_request, last, 12);
 CAMXPT_AT_(camxpt_request, start, 16);
 CAMXPT_AT_(camxpt_request, driver, 20);
 CAMXPT_AT_(camxpt_request, done, 24);
+CAMXPT_SIZE_(camxpt_window, 64);
+CAMXPT_AT_(camxpt_window, number, 0);
+CAMXPT_AT_(camxpt_window, from_ns, 8);
+CAMXPT_AT_(camxpt_window, until_ns, 16);
+CAMXPT_AT_(camxpt_window, requests, 24);
+CAMXPT_AT_(camxpt_window, carried, 32);
+CAMXPT_AT_(camxpt_window, rounds, 40);
+CAMXPT_AT_(camxpt_window, size, 48);
+CAMXPT_AT_(camxpt_window, offset, 56);
 
 /* ---- calls -------------------------------------------------------------------------------------------------------------- */
 
@@ -583,6 +658,54 @@ CAMXPT_NODISCARD camxpt_code camxpt_carry(camxpt *from, camxpt *to, const camxpt
 CAMXPT_NODISCARD camxpt_code camxpt_recording(const camxpt_config *c, const camxpt_span *unit, uint32_t rounds,
                                               const camxpt_cap *caps, size_t cap_count, const camxpt_request *requests,
                                               size_t request_count, void *buffer, size_t room, size_t *needed, size_t *wrong);
+
+/* ---- recorder: recordings of what any scheduler did, window by window --------------------------------------------------- */
+
+/** Opens a closed recorder. A driver notes when each request arrives, is started and is done. Of what was started in a window a
+ *  recording is made, which `camxpt audit` takes, and given to the write function: with the first note of a time a second after
+ *  the window's end. All memory that notes take is taken here: 100 bytes for each request of the room. The names are copied.
+ *
+ *  What is said of handles above holds of recorders: closed if all bytes are zero, used by one thread at a time (a lock around
+ *  each call will do), and closed before its memory goes.
+ *  Answers CAMXPT_E_OPEN, CAMXPT_E_LIMIT (a window of 0 ns; no room, or too much; a device or driver too many), CAMXPT_E_UNIT or
+ *  CAMXPT_E_MEMORY; then the recorder is as it was. */
+CAMXPT_NODISCARD camxpt_code camxpt_recorder_open(camxpt_recorder *r, const camxpt_recorder_options *options);
+
+/** Notes that a request arrives at this time, at the device and from the driver of these numbers, which are their places in the
+ *  options. The id is any number that no open request has: a request is open until it is done or cancelled. Times are
+ *  nanoseconds of one clock, and go back by a second at most. If there is no room for one more request, the window is cut off
+ *  early.
+ *  Not taken: NOTE_NO_DEVICE, _NO_DRIVER, _BAD_PRIORITY, _TIME_FALLS, _ALREADY_OPEN, _FULL.
+ *
+ *  Any note may end a window, which takes memory and time; any other takes none. Then the recordings of all windows that are
+ *  over are written, one after the other, before the call returns. At CAMXPT_E_WRITE and CAMXPT_E_MEMORY the note was taken and
+ *  nothing is lost: the window is kept, and its recording is written anew from its first byte with the next note that is taken,
+ *  or with camxpt_recorder_close. At CAMXPT_E_WINDOW the note was taken, and a window can't be made: a device had more requests
+ *  in flight than its depth, there are too many requests, or no round is given and each that is short enough makes too many. The
+ *  window is lost. Where that stays so, no more are made, and each note that is taken answers so: close the recorder. */
+CAMXPT_NODISCARD camxpt_code camxpt_note_arrival(camxpt_recorder *r, uint64_t id, uint32_t device, uint8_t driver,
+                                                 uint32_t priority, uint64_t ns);
+
+/** Notes that the open request is started at this time: from then on it is in flight. With CAMXPT_E_WRITE, _MEMORY and _WINDOW as
+ *  above. Not taken: NOTE_TIME_FALLS, _NOT_OPEN, _ALREADY_STARTED, _BEFORE_ARRIVAL. */
+CAMXPT_NODISCARD camxpt_code camxpt_note_start(camxpt_recorder *r, uint64_t id, uint64_t ns);
+
+/** Notes that the open request is done at this time. A request in flight goes on for one window after the one in which it was
+ *  started; after that it isn't open any more, and NOTE_NOT_OPEN is no error for it. With CAMXPT_E_WRITE, _MEMORY and _WINDOW as
+ *  above. Not taken: NOTE_TIME_FALLS, _NOT_OPEN, _NOT_STARTED, _BEFORE_START. */
+CAMXPT_NODISCARD camxpt_code camxpt_note_done(camxpt_recorder *r, uint64_t id, uint64_t ns);
+
+/** Withdraws an open request that wasn't started. With CAMXPT_E_WRITE, _MEMORY and _WINDOW as above.
+ *  Not taken: NOTE_NOT_OPEN, _ALREADY_STARTED. */
+CAMXPT_NODISCARD camxpt_code camxpt_note_cancel(camxpt_recorder *r, uint64_t id);
+
+/** Writes the recordings of all windows that are left, the last one up to the last start, and then frees all memory. At
+ *  CAMXPT_E_WRITE and CAMXPT_E_MEMORY the recorder stays open, and the call can be made again. At CAMXPT_E_WINDOW it is closed,
+ *  and a window is lost. */
+CAMXPT_NODISCARD camxpt_code camxpt_recorder_close(camxpt_recorder *r);
+
+/** Closes the recorder and frees all memory of it; what isn't written is lost. */
+camxpt_code camxpt_recorder_abandon(camxpt_recorder *r);
 
 #ifdef __cplusplus
 }

@@ -961,6 +961,89 @@ static void memory(void)
            counts[0] - 1, counts[1] - 1, counts[2] - 1, counts[3] - 1, counts[4] - 1);
 }
 
+/* What a recorder wrote. */
+struct written {
+    char text[32768];
+    size_t size, windows;
+};
+
+static int keep(void *user, const camxpt_window *window, const void *bytes, size_t size)
+{
+    struct written *w = (struct written *)user;
+
+    HOLDS(w->size + size <= sizeof w->text);
+    if (window->offset == 0)
+        w->windows++;
+    memcpy(w->text + w->size, bytes, size);
+    w->size += size;
+    return 0;
+}
+
+/* Records three windows, and refuses requests for memory after so many: of the opening, of the note that ends two windows, or of
+ * the end. Whether one was refused. */
+static bool record(struct written *to, int where, long after)
+{
+    static const camxpt_recorder_device disks[] = {{"sda", 2}, {"sdb", 0}};
+    static const char *const drivers[] = {"web", "log"};
+    const camxpt_recorder_options o = {{1, CAMXPT_MILLISECONDS}, 1000000000, 100, disks, 2, drivers, 2, keep, to};
+    camxpt_recorder r = CAMXPT_RECORDER_INIT;
+    const uint64_t late = UINT64_C(3500000000);
+    bool refused = false;
+    camxpt_code code;
+
+    memset(to, 0, sizeof *to);
+    granted = where == 0 ? after : -1;
+    code = camxpt_recorder_open(&r, &o);
+    granted = -1;
+    if (code != CAMXPT_OK) {
+        DUE(code, CAMXPT_E_MEMORY);
+        HOLDS(blocks == 0);
+        refused = true;
+        DUE(camxpt_recorder_open(&r, &o), CAMXPT_OK);
+    }
+    granted = 0;
+    for (uint64_t id = 0; id < 20; id++) {
+        const uint64_t ns = 500000000 + id * 60000000;
+
+        DUE(camxpt_note_arrival(&r, id, (uint32_t)(id % 2), (uint8_t)(id % 2), 1152, ns), CAMXPT_OK);
+        DUE(camxpt_note_start(&r, id, ns + 3000000), CAMXPT_OK);
+        DUE(camxpt_note_done(&r, id, ns + 9000000), CAMXPT_OK);
+    }
+    HOLDS(to->windows == 0);
+    granted = where == 1 ? after : -1;
+    code = camxpt_note_arrival(&r, 20, 0, 0, 1152, late);
+    granted = -1;
+    refused |= code != CAMXPT_OK;
+    HOLDS(code == CAMXPT_OK || code == CAMXPT_E_MEMORY);
+    HOLDS(r.self_ == &r);
+    DUE(camxpt_note_start(&r, 20, late), CAMXPT_OK);
+    HOLDS(to->windows > 0);
+    granted = where == 2 ? after : -1;
+    code = camxpt_recorder_close(&r);
+    granted = -1;
+    refused |= code != CAMXPT_OK;
+    HOLDS(code == CAMXPT_OK || code == CAMXPT_E_MEMORY);
+    if (code == CAMXPT_E_MEMORY)
+        DUE(camxpt_recorder_close(&r), CAMXPT_OK);
+    HOLDS(blocks == 0 && r.self_ == NULL);
+    return refused;
+}
+
+/* Each request for memory of a recorder is refused in turn, and what it writes is the same. */
+static void recorder_memory(void)
+{
+    static struct written plain, other;
+    long counts[3] = {0, 0, 0};
+
+    HOLDS(!record(&plain, 0, -1) && plain.windows == 3);
+    for (int where = 0; where < 3; where++) {
+        for (; record(&other, where, counts[where]); counts[where]++)
+            HOLDS(other.windows == plain.windows && other.size == plain.size && memcmp(other.text, plain.text, plain.size) == 0);
+        HOLDS(counts[where] > 1);
+    }
+    printf("a recorder's requests for memory: %ld to open, %ld for two windows, %ld at its end\n", counts[0], counts[1], counts[2]);
+}
+
 int main(void)
 {
     HOLDS(strcmp(camxpt_version(), CAMXPT_VERSION) == 0);
@@ -977,6 +1060,7 @@ int main(void)
     wrong_recordings();
     recordings();
     memory();
+    recorder_memory();
     for (camxpt_code code = LEAST; code <= MOST; code++)
         if (strcmp(camxpt_code_name(code), "Unknown") != 0 && !reached[code - LEAST]) {
             fprintf(stderr, "misuse: no call answers %s\n", camxpt_code_name(code));

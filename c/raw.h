@@ -44,6 +44,19 @@ camxpt_code camxpt_raw_recording(const camxpt_weight *weights, size_t weight_cou
                                  size_t cap_count, const camxpt_request *requests, size_t request_count, uint8_t *buffer,
                                  size_t room, size_t *needed, size_t *wrong);
 
+camxpt_code camxpt_raw_recorder_open(camxpt_raw *r, const camxpt_span *round, uint64_t window_ns, uint32_t room);
+camxpt_code camxpt_raw_recorder_close(camxpt_raw *r);
+camxpt_code camxpt_raw_recorder_add_device(camxpt_raw *r, const uint8_t *name, size_t size, uint32_t depth);
+camxpt_code camxpt_raw_recorder_add_driver(camxpt_raw *r, const uint8_t *name, size_t size);
+camxpt_code camxpt_raw_note_arrival(camxpt_raw *r, uint64_t id, uint32_t device, uint8_t driver, uint32_t priority, uint64_t ns);
+camxpt_code camxpt_raw_note_start(camxpt_raw *r, uint64_t id, uint64_t ns);
+camxpt_code camxpt_raw_note_done(camxpt_raw *r, uint64_t id, uint64_t ns);
+camxpt_code camxpt_raw_note_cancel(camxpt_raw *r, uint64_t id);
+camxpt_code camxpt_raw_recorder_is_due(camxpt_raw *r);
+camxpt_code camxpt_raw_recorder_make(camxpt_raw *r, uint32_t ending, camxpt_window *window);
+camxpt_code camxpt_raw_recorder_read(camxpt_raw *r, size_t offset, uint8_t *buffer, size_t room, size_t *copied);
+camxpt_code camxpt_raw_recorder_written(camxpt_raw *r);
+
 #ifdef __cplusplus
 }
 #endif

@@ -9,6 +9,8 @@ use Rattle.recording_file.specs.declared.cause.RequestFault.TheVariants as cause
 use Rattle.sense_class.specs.declared.class.Class.{Class}
 use Rattle.sense_class.specs.declared.class.Class.TheVariants as classes
 use Rattle.sense_class.specs.declared.class.Why.TheVariants as failures
+use Rattle.request_notes.specs.declared.note_fault.NoteFault.{NoteFault}
+use Rattle.request_notes.specs.declared.note_fault.NoteFault.TheVariants as notes
 use Rattle.xpt_state.specs.declared.idle.Idle.{Idle}
 use Rattle.xpt_state.specs.declared.idle.Idle.TheVariants as idles
 
@@ -73,3 +75,16 @@ class_code classes.CountedRequeue = 2
 class_code (classes.Fail failures.Recovered) = 3
 class_code (classes.Fail failures.Spent) = 4
 class_code (classes.Fail failures.Other) = 5
+
+abbrev pub note_code : NoteFault → ℤ
+note_code notes.NoDevice = pos 80
+note_code notes.NoDriver = pos 81
+note_code notes.NoPriority = pos 82
+note_code notes.TimeFalls = pos 83
+note_code notes.AlreadyOpen = pos 84
+note_code notes.Full = pos 85
+note_code notes.NotOpen = pos 86
+note_code notes.AlreadyStarted = pos 87
+note_code notes.NotStarted = pos 88
+note_code notes.StartBeforeArrival = pos 89
+note_code notes.DoneBeforeStart = pos 90

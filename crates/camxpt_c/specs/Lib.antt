@@ -15,3 +15,5 @@ pub mod Tally
 pub mod Tallies
 pub mod Held
 pub mod Laws
+pub mod Keeping
+pub mod RecorderCalls

@@ -1,11 +1,12 @@
 //! The numbers that the functions answer.
 
 ghost use Rattle.std.specs.Prelude.{◌≡◌};
-ghost use Rattle.camxpt_c.specs.Codes.{code_of, idle_code, fault_code, class_code, cause_code};
+ghost use Rattle.camxpt_c.specs.Codes.{code_of, idle_code, fault_code, class_code, cause_code, note_code};
 
 use cam_types::ConfigFault;
 use event_rules::Refusal;
 use recording_file::RequestFault;
+use request_notes::NoteFault;
 use sense_class::{Class, Why};
 use xpt_state::Idle;
 
@@ -34,6 +35,9 @@ pub const E_REQUESTS: i32 = -11;
 pub const E_CAP: i32 = -12;
 /// A request was completed before it was started.
 pub const E_DONE: i32 = -13;
+// -14, of a window that wasn't written, is answered by the header's own functions.
+/// There is no recording of a window.
+pub const E_WINDOW: i32 = -15;
 /// There is none.
 pub const NONE: i32 = 36;
 /// CCBs wait for a decision.
@@ -113,6 +117,25 @@ pub fn cause_code(cause: RequestFault) -> i32
         RequestFault::DeviceFull => 69,
         RequestFault::AdapterFull => 70,
         RequestFault::LinkFull => 71,
+    }
+}
+
+/// The number of the cause why a note isn't taken: 80 to 90.
+pub fn note_code(fault: NoteFault) -> i32
+    ensures { result ≡ note_code fault }
+{
+    match fault {
+        NoteFault::NoDevice => 80,
+        NoteFault::NoDriver => 81,
+        NoteFault::NoPriority => 82,
+        NoteFault::TimeFalls => 83,
+        NoteFault::AlreadyOpen => 84,
+        NoteFault::Full => 85,
+        NoteFault::NotOpen => 86,
+        NoteFault::AlreadyStarted => 87,
+        NoteFault::NotStarted => 88,
+        NoteFault::StartBeforeArrival => 89,
+        NoteFault::DoneBeforeStart => 90,
     }
 }
 

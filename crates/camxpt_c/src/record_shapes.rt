@@ -61,6 +61,21 @@ pub struct CamxptRequest {
     pub done: u32,
 }
 
+/// A window of a recorder's: when its first round begins and its last one is over, how many requests were started in it, what these waited
+/// before it in weighted rounds, its rounds, and the bytes of its recording. Which of them are given begins at `offset`.
+#[repr(C)]
+#[derive(Clone, Copy)]
+pub struct CamxptWindow {
+    pub number: u64,
+    pub from_ns: u64,
+    pub until_ns: u64,
+    pub requests: u64,
+    pub carried: u64,
+    pub rounds: u32,
+    pub size: usize,
+    pub offset: usize,
+}
+
 /// How long a round is, if that is known.
 pub(crate) fn span_of(shape: CamxptSpan) -> Option<Span>
     ensures value { result ≡ span_of shape }

@@ -177,8 +177,8 @@ fn recording_of(
     Ok(recorder.finish())
 }
 
-// The bytes that `write_recording` writes of a recording. A queue takes them, of which they are read again.
-fn bytes_of(alloc: Global, recording: &Recording) -> Result<Vec<u8>, AllocError>
+/// The bytes that `write_recording` writes of a recording. A queue takes them, of which they are read again.
+pub(crate) fn bytes_of(alloc: Global, recording: &Recording) -> Result<Vec<u8>, AllocError>
     ensures text { IfOk result (λ text. text.items ≡ recording_text recording.now) }
     ensures read { OnOk result (IsRecordingText (recording_text recording.now) recording.now) }
 {

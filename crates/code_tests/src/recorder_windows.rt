@@ -9,7 +9,7 @@ use window_recordings::Ending;
 // Ten nanoseconds.
 const ROUND: Span = Span {
     count: 10,
-    unit: TimeUnit::Nanoseconds,
+    unit: TimeUnit::Nanosecond,
 };
 
 // From when to when a window goes, how many requests were started in it, and what these waited before it.

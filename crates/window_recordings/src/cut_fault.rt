@@ -40,7 +40,10 @@ impl From<AllocError> for CutFault {
 
 impl From<CaptureFault> for CutFault {
     fn from(fault: CaptureFault) -> CutFault {
-        CutFault::Capture(fault)
+        match fault {
+            CaptureFault::OutOfMemory => CutFault::OutOfMemory,
+            other => CutFault::Capture(other),
+        }
     }
 }
 

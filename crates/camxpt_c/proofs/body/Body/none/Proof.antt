@@ -22,7 +22,8 @@ use Rattle.std.proofs.ResultValues.{and_tt}
 use Rattle.std.proofs.cell.Inside.{one}
 use Rattle.std.proofs.raw_atomic.Walks.{proved_at, leaves}
 use Rattle.camxpt_c.proofs.RawBoxes.{two}
-use Rattle.camxpt_c.proofs.Bodies.{Z, LZ, R, none_in}
+use Rattle.camxpt_c.proofs.Bodies.{Z, LZ, none_in}
+use Rattle.camxpt_c.specs.contracts.port.Port.{the_row as R}
 use Rattle.camxpt_c.specs.contracts.body.Body.none.{ended, clauses}
 use Rattle.camxpt_c.specs.contracts.body.Body.none.Key.{name as #self}
 use Rattle.camxpt_c.proofs.body.Body.none.Statement.{statement}
@@ -39,7 +40,7 @@ none_spec 𝓤 𝓛 𝓜 𝓡 wired =
     let Run : List Val → SProp 𝓤 = λ words. WpFn 𝓤 H 𝓣.C 𝓣.Λ fn words Post in
     let given = (raw (alive 𝓛 ended.signature κs qs) ⊛ ‵ (owns (types_at ended.signature.params κs) z.0.3 z.0.4)) ∷ raw ((stated κs z.0.3).requires z.1) ∷ [] in
     let h = one (layout Z) z.0.4.0 ((LZ.lawful 𝓛).typed taken z.0.4.0 are.0) in let made : Val = two vnull h.0 in
-    qed 𝓛 given ∵ split ! $ move ! (1 ∷ []) $ fsplit ! $ rewrite ! 0 (λ (us : List Val). ‵ (Z.own_val taken us)) h.1 refl $ none_in ! h.0 taken $
+    qed 𝓛 given ∵ split ! $ move ! (1 ∷ []) $ fsplit ! $ rewrite ! 0 (λ (us : List Val). ‵ (Z.own_val taken us)) h.1 refl $ none_in R ! h.0 taken $
     suffices ! (Run (h.0 ∷ [])) (subst (λ (us : List Val). ent 𝓤 (Run (h.0 ∷ [])) (Run us)) (sym (λ i. h.1 i ++ [])) (id⊢ 𝓤 (Run (h.0 ∷ [])))) $
     enter ! 𝓣.C 𝓣.Λ fn (h.0 ∷ []) Post $ alloc_all ! (λ l. pass_all ! refl (h.2, tt) $
     sets ! (agg ! (and_then ! (lit ! tt) (and_then ! (get ! refl) (no_more !)))) refl (and_tt _ h.2.0, (record { fits = lit< tt }, (h.2.1, tt))) $

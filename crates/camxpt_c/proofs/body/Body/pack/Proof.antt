@@ -20,8 +20,9 @@ use denote.Triple.Walked.{Stays, stay_dropped, walk_of}
 use Rattle.std.proofs.alloc.Calls.{Goes-blank}
 use Rattle.std.proofs.raw_atomic.Walks.{proved_at, leaves}
 use Rattle.std.specs.contracts.impls.GlobalAllocator.TheImpl.{ghosts}
-use Rattle.camxpt_c.proofs.RawBoxes.{two, Raw, two_fit, raw_out}
-use Rattle.camxpt_c.proofs.Bodies.{Z, LZ, R, body_in}
+use Rattle.camxpt_c.proofs.RawBoxes.{two, Raw, two_fit, raw_in, raw_out}
+use Rattle.camxpt_c.proofs.Bodies.{Z, LZ}
+use Rattle.camxpt_c.specs.contracts.port.Port.{the_row as R}
 use Rattle.camxpt_c.specs.contracts.body.Body.pack.{ended, clauses}
 use Rattle.camxpt_c.specs.contracts.body.Body.pack.Key.{name as #self}
 use Rattle.camxpt_c.proofs.body.Body.pack.Statement.{statement}
@@ -46,7 +47,7 @@ pack_spec 𝓤 𝓛 𝓜 𝓡 wired =
     sets ! (of_opd ! (get_in ! (fld ! refl (stop !)) (sub ! 1 refl (whole !)))) refl fits $
     sets ! (of_opd ! (get ! refl)) refl (tt, tt) $
     sets ! (agg ! (and_then ! (get ! refl) (and_then ! (get ! refl) (no_more !)))) refl held_fits $
-    body_in ! b o a taken.alloc taken.value $
+    raw_in R Z LZ ghosts ! b o a taken.alloc taken.value $
     use0 𝓛 (raw (fact 𝓤 (Some taken.value ≡ Some taken.value))) (fact_i 𝓤 (Some taken.value ≡ Some taken.value) (emp 𝓤) refl) $ nothing ! $ nothing ! $ fjoin ! $
     returns ! (look_at ! 0 refl) $ free_all ! refl $ keep ! (4 ∷ 0 ∷ 2 ∷ 1 ∷ []) $
     by ! (leaves 𝓛 ended stays stated z held (record { at = block_ptr b o; alloc = taken.alloc; kept = Some taken.value }) (_, tt) (tt, tt)))))

@@ -1,10 +1,10 @@
 -- `unpack` hands them back, if the pointer isn't null.
 use Rattle.std.proofs.Common.{◌≡◌, List, [], ◌∷◌, ◌++◌, refl, sym, subst}
 use mir.Val.{Val, vptr}
-use Rattle.std.specs.Prelude.{Some, IsTrue, is_some}
+use Rattle.std.specs.Prelude.{Option, Some, IsTrue, is_some}
 use base.Logic.{SProp, ent, emp, id⊢}
 use prog.Wp.{WpFn}
-use types.Kit.{‵, raw, ◌⊛◌, ◌$◌, ◌∵◌, !, qed, by, move, keep, split, fsplit, fjoin, suffices, use0}
+use types.Kit.{‵, raw, ◌⊛◌, ◌$◌, ◌∵◌, !, qed, by, move, keep, split, fsplit, fjoin, suffices, use0, rewrite}
 use types.Run.{stop, fld, of_opd, no_more, and_then, returns, enter}
 use types.ByLocal.{alloc_all, pass_all, free_all, look_at, get, get_in, sets}
 use types.Part.{agg, sub, whole}
@@ -20,8 +20,10 @@ use denote.Triple.Walked.{Stays, stay_dropped, walk_of}
 use Rattle.std.proofs.alloc.Calls.{Goes-blank}
 use Rattle.std.proofs.raw_atomic.Walks.{proved_at, leaves}
 use Rattle.std.specs.contracts.impls.GlobalAllocator.TheImpl.{ghosts}
-use Rattle.camxpt_c.proofs.RawBoxes.{two, two_fit, raw_in}
-use Rattle.camxpt_c.proofs.Bodies.{Z, LZ, R, B, found, body_out}
+use Rattle.camxpt_c.proofs.RawBoxes.{two, two_fit, raw_in, raw_out}
+use Rattle.camxpt_c.proofs.Bodies.{Z, LZ, found}
+use Rattle.camxpt_c.specs.contracts.port.Port.{the_row as R}
+use Rattle.camxpt_c.specs.contracts.body.Body.{the_row as B}
 use Rattle.camxpt_c.specs.contracts.body.Body.unpack.{ended, clauses}
 use Rattle.camxpt_c.specs.contracts.body.Body.unpack.Key.{name as #self}
 use Rattle.camxpt_c.proofs.body.Body.unpack.Statement.{statement}
@@ -38,7 +40,8 @@ unpack_spec 𝓤 𝓛 𝓜 𝓡 wired =
     let given = (raw (alive 𝓛 ended.signature κs qs) ⊛ ‵ (owns (types_at ended.signature.params κs) z.0.3 z.0.4)) ∷ raw ((stated κs z.0.3).requires z.1) ∷ [] in
     qed 𝓛 given ∵ split ! $ move ! (1 ∷ []) $ fsplit ! $ move ! (3 ∷ []) $ heard ! (IsTrue (is_some taken.kept)) (λ there.
     let x = (found taken.kept there).0 in let is = (found taken.kept there).1 in
-    body_out ! taken z.0.4.0 x is (λ b o a at words fits.
+    rewrite ! 0 (λ (y : Option R.Denot). ‵ (B.own_val (record { at = taken.at; alloc = taken.alloc; kept = y }) z.0.4.0)) is refl $
+    raw_out R Z LZ ghosts ! (record { at = taken.at; alloc = taken.alloc; value = x }) z.0.4.0 (λ b o a at words fits.
     let held : Val = two (vptr b o) a in let held_fits = two_fit R Z LZ ghosts b o a fits in
     -- both fields are moved out and into the other struct; the cast leaves the pointer as it is
     suffices ! (Run (held ∷ [])) (subst (λ (us : List Val). ent 𝓤 (Run (held ∷ [])) (Run us)) (sym (λ i. words i ++ [])) (id⊢ 𝓤 (Run (held ∷ [])))) $

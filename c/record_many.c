@@ -141,7 +141,7 @@ int main(int argc, char **argv)
 {
     static struct disk disks[DISKS];
     pthread_t threads[DISKS];
-    camxpt_recorder_options options = { { 0, CAMXPT_NANOSECONDS }, 0, 1200000, devices, DISKS, drivers, 3, write_window, NULL };
+    camxpt_recorder_options options = { { 0, CAMXPT_NANOSECONDS }, 0, 1500000, devices, DISKS, drivers, 3, write_window, NULL };
 
     if (argc != 4)
         fail("REQUESTS WINDOW_NS FOLDER");

@@ -15,10 +15,10 @@ same_last size ids id j e = rw e (ap (λ x. x % size) (get_or-append_seam ids id
 
 up_kept : (size r : ℕ) (ids : List ℕ) (id n p : ℕ) → n ≤ length ids → IsUpTo size r ids n p → IsUpTo size r (ids ++ id ∷ []) n p
 up_kept size r ids id n p le h = record {
-    most = h.most;
-    newest = λ j from below e. h.newest j from below (sym (same_left size ids id j (omega arith)) ∙ e);
-    is = λ some. let m = h.most in same_left size ids id (p - 1) (omega arith) ∙ h.is some;
-  }
+  most = h.most;
+  newest = λ j from below e. h.newest j from below (sym (same_left size ids id j (omega arith)) ∙ e);
+  is = λ some. let m = h.most in same_left size ids id (p - 1) (omega arith) ∙ h.is some;
+}
 
 up_other : (size r : ℕ) (ids : List ℕ) (id p : ℕ) → (r ≡ id % size → ⊥) → IsUpTo size r ids (length ids) p → IsUpTo size r (ids ++ id ∷ []) (length ids + 1) p
 up_other size r ids id p other h =
@@ -34,10 +34,10 @@ up_other size r ids id p other h =
 
 up_last : (size : ℕ) (ids : List ℕ) (id : ℕ) → IsUpTo size (id % size) (ids ++ id ∷ []) (length ids + 1) (length ids + 1)
 up_last size ids id = record {
-    most = omega arith;
-    newest = λ j from below e. absurd (omega arith);
-    is = λ some. same_last size ids id (length ids + 1 - 1) (omega arith);
-  }
+  most = omega arith;
+  newest = λ j from below e. absurd (omega arith);
+  is = λ some. same_last size ids id (length ids + 1 - 1) (omega arith);
+}
 
 -- one more id
 pub linked : (ids heads earlier : List ℕ) (id count : ℕ) → count ≡ length earlier + 1 → IsIndex ids heads earlier → IsIndex (ids ++ id ∷ []) (set heads (id % length heads) count) (earlier ++ get_or heads (id % length heads) 0 ∷ [])

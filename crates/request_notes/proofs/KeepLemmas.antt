@@ -11,9 +11,11 @@ use Rattle.request_notes.specs.Windows.{id_of, note_stays, stays, staying_ids}
 
 abbrev pub no_attempt : Attempt
 no_attempt = record {
-    request = record { arrival = 0; started = None; retried = None; completed = None; driver = 0; device = 0; priority = 0 };
-    is_taken = false; has_slot = false; number = 0
-  }
+  request = record { arrival = 0; started = None; retried = None; completed = None; driver = 0; device = 0; priority = 0 };
+  is_taken = false;
+  has_slot = false;
+  number = 0;
+}
 
 -- ---- one more id with its attempt
 
@@ -25,8 +27,11 @@ notes_push (x ∷ ids) (b ∷ attempts) id a same = ap (λ (ns : List Note). rec
 
 staying_push : (span : TimeSpan) (ids : List ℕ) (attempts : List Attempt) (id : ℕ) (a : Attempt) → length attempts ≡ length ids → staying_ids span (ids ++ id ∷ []) (attempts ++ a ∷ []) ≡ staying_ids span ids attempts ++ cond (stays span a) (id ∷ []) []
 staying_push span ids attempts id a same =
-    rw (notes_push ids attempts id a same, filter-append (note_stays span) (notes_of ids attempts) (record { id = id; attempt = a } ∷ []),
-        map-append id_of (filter (note_stays span) (notes_of ids attempts)) (filter (note_stays span) (record { id = id; attempt = a } ∷ [])))
+    rw (
+      notes_push ids attempts id a same,
+      filter-append (note_stays span) (notes_of ids attempts) (record { id = id; attempt = a } ∷ []),
+      map-append id_of (filter (note_stays span) (notes_of ids attempts)) (filter (note_stays span) (record { id = id; attempt = a } ∷ [])),
+    )
     (elim (stays span a) as (λ b. map id_of (filter (note_stays span) (notes_of ids attempts)) ++ map id_of (cond b (record { id = id; attempt = a } ∷ []) []) ≡ map id_of (filter (note_stays span) (notes_of ids attempts)) ++ cond b (id ∷ []) []) [ true ↦ refl | false ↦ refl ])
 
 -- one more place
@@ -49,12 +54,12 @@ pub record IsKept (span : TimeSpan) (attempts : List Attempt) (before now heads 
 pub kept_none : (span : TimeSpan) (attempts : List Attempt) (before now heads earlier : List ℕ) (place count : ℕ) → place < length attempts → length attempts ≡ length before
     → false ≡ stays span (get_or attempts place no_attempt) → IsKept span attempts before now heads earlier place count → IsKept span attempts before now heads earlier (place + 1) count
 kept_none span attempts before now heads earlier place count lt long goes h = record {
-    few = let f = h.few in omega arith;
-    size = h.size;
-    same = rw (staying_more span before attempts place lt long, sym goes) (h.same ∙ sym (append-nil (staying_ids span (take place before) (take place attempts))));
-    rest = λ j le. h.rest j (omega arith);
-    index = h.index;
-  }
+  few = let f = h.few in omega arith;
+  size = h.size;
+  same = rw (staying_more span before attempts place lt long, sym goes) (h.same ∙ sym (append-nil (staying_ids span (take place before) (take place attempts))));
+  rest = λ j le. h.rest j (omega arith);
+  index = h.index;
+}
 
 pub kept_one : (span : TimeSpan) (attempts : List Attempt) (before now heads earlier : List ℕ) (place count id : ℕ) (heads' earlier' : List ℕ) → place < length attempts → length attempts ≡ length before
     → true ≡ stays span (get_or attempts place no_attempt) → id ≡ get_or now place id

@@ -113,11 +113,11 @@ changed_at id f (x ∷ ids) (a ∷ attempts) (suc place) same apart h goes =
 pub open_at : (id : ℕ) (ids : List ℕ) (attempts : List Attempt) (place : ℕ) → length attempts ≡ length ids → AreApart (notes_of ids attempts) → IsPlace id ids place
     → is_open (get_or attempts place no_attempt) ≡ true → IsOpenAt id (notes_of ids attempts) place (get_or attempts place no_attempt)
 open_at id ids attempts place same apart h goes = record {
-    at = note_at ids attempts place same h.within ∙ ap (λ x. Some (note x (get_or attempts place no_attempt))) h.is;
-    going = goes;
-    found = ap (option_map attempt_of) (found_at id ids attempts place same apart h ∙ ap (λ b. cond b (Some (note id (get_or attempts place no_attempt))) None) goes);
-    changed = λ f. changed_at id f ids attempts place same apart h goes;
-  }
+  at = note_at ids attempts place same h.within ∙ ap (λ x. Some (note x (get_or attempts place no_attempt))) h.is;
+  going = goes;
+  found = ap (option_map attempt_of) (found_at id ids attempts place same apart h ∙ ap (λ b. cond b (Some (note id (get_or attempts place no_attempt))) None) goes);
+  changed = λ f. changed_at id f ids attempts place same apart h goes;
+}
 
 pub closed_at : (id : ℕ) (ids : List ℕ) (attempts : List Attempt) (place : ℕ) → length attempts ≡ length ids → AreApart (notes_of ids attempts) → IsPlace id ids place
     → is_open (get_or attempts place no_attempt) ≡ false → open_request id (notes_of ids attempts) ≡ None

@@ -44,9 +44,11 @@ AreApart (n ∷ rest) = (is_open n.attempt ≡ true → AllByRecursion (λ (m : 
 -- one that has arrived
 abbrev pub arrived : ℕ → ℕ → ℕ → ℕ → Attempt
 arrived device driver priority time = record {
-    request = record { arrival = time; started = None; retried = None; completed = None; driver = driver; device = device; priority = priority };
-    is_taken = true; has_slot = true; number = 0
-  }
+  request = record { arrival = time; started = None; retried = None; completed = None; driver = driver; device = device; priority = priority };
+  is_taken = true;
+  has_slot = true;
+  number = 0;
+}
 
 -- with one more, at its arrival
 abbrev pub with_arrival : ℕ → Attempt → Noted → Noted

@@ -1,4 +1,5 @@
 //! Windows of a capture as recordings: how long a round is, where windows begin, and the recording of what was started in each.
+#![tactic(auto)]
 
 pub use cut::{Cut, CutWindow, Ending};
 pub use cut_fault::CutFault;

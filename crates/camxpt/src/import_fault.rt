@@ -174,7 +174,6 @@ impl From<CutFault> for ImportFault {
             CutFault::TooFewSlots(place, most) => ImportFault::TooFewSlots(place, most),
             CutFault::TooManyDevices(count) => ImportFault::Files(LineFault::TooManyDevices(count)),
             CutFault::TooManyOpen(count) => ImportFault::TooManyOpen(count),
-            CutFault::NoRound(longest) => ImportFault::NoRound(longest),
             CutFault::OutOfMemory => ImportFault::OutOfMemory(AllocError),
         }
     }

@@ -1,6 +1,7 @@
 pub mod FaultLemmas
 pub mod HandLemmas
 pub mod LawLemmas
+mod MakingLemmas
 pub mod PortLemmas
 pub mod TallyLemmas
 pub mod TotalLemmas

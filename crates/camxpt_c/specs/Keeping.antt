@@ -1,16 +1,48 @@
 -- what a recorder's handle keeps
-use Rattle.std.specs.Prelude.{ℕ, ◌+◌, ℤ, List, Option, None, Some, MatchOption, ◌≡◌, ◌⊎◌, ◌++◌, Bool, true, false, min, length, take, drop}
-use Rattle.recorder.specs.Recorder.{Recorded}
+use Rattle.std.specs.Prelude.{ℕ, ◌+◌, ℤ, List, [], IfSome, Option, None, Some, MatchOption, ◌≡◌, ◌⊎◌, ◌++◌, Bool, true, false, min, length, take, drop}
+use Rattle.recording_file.specs.Recordings.{IsRecordingText}
+use Rattle.recording_file.specs.Writing.{recording_text}
+use Rattle.window_recordings.specs.declared.cut.CutWindow.{CutWindow}
+use Rattle.recorder.specs.Recorder.{Recorded, nothing_noted}
 use Rattle.request_notes.specs.Notes.{arrived, change, done_at, started_at, withdrawn, with_arrival, with_change}
 use Rattle.request_notes.specs.declared.note_fault.NoteFault.{NoteFault}
 use Rattle.camxpt_c.specs.Codes.{note_code}
+use Rattle.camxpt_c.specs.declared.record_shapes.CamxptWindow.{CamxptWindow}
 use Rattle.camxpt_c.specs.declared.codes.TheConstants.{OK, NONE, E_MEMORY, E_LIMIT}
 
--- what is recorded, how many windows were made, and the bytes of the last one's recording until they are written
+-- what is recorded, and the bytes of a window's recording until they are written
 pub record Keeping : Type 0 where
   pub recorded : Recorded
-  pub windows : ℕ
   pub text : Option (List ℕ)
+
+-- the bytes are those of a window's recording, which a reader of recordings takes; there are none if nothing was started in it
+abbrev pub IsTextOf : CutWindow → List ℕ → Type 0
+IsTextOf w text = MatchOption w.recording (text ≡ []) (λ r. (text ≡ recording_text r) × IsRecordingText (recording_text r) r)
+
+-- bytes that wait are those of the window that was made
+abbrev pub IsKeeping : Keeping → Type 0
+IsKeeping k = IfSome k.text (λ text. MatchOption k.recorded.window ⊥ (λ w. IsTextOf w text))
+
+-- nothing is noted yet
+abbrev pub fresh_keeping : ℕ → Keeping
+fresh_keeping room = record { recorded = nothing_noted room; text = None }
+
+-- the window and its bytes were let go of
+abbrev pub written : Keeping → Keeping
+written k = record { recorded = record k.recorded { window = None }; text = None }
+
+-- what is said of a window with these bytes
+abbrev pub said : CutWindow → List ℕ → CamxptWindow
+said w text = record {
+  number = w.number;
+  from_ns = w.from;
+  until_ns = w.until;
+  requests = w.requests;
+  carried = w.carried;
+  rounds = w.rounds;
+  size = length text;
+  offset = 0;
+}
 
 -- ---- what the calls make of it
 

@@ -1,6 +1,7 @@
 -- what the calls of a recorder do: what the handle has before and after, and the number that they answer
-use Rattle.std.specs.Prelude.{ℕ, ℤ, Option, None, Some, IfSome, MatchOption, ◌≡◌, ◌⊎◌, ◌==◌, ◌||◌, nat_lt, length, if◌then◌else◌}
-use Rattle.camxpt_c.specs.Keeping.{Keeping}
+use Rattle.std.specs.Prelude.{ℕ, ℤ, Option, None, Some, MatchOption, ◌≡◌, ◌⊎◌, ◌==◌, ◌||◌, nat_lt, if◌then◌else◌}
+use Rattle.recorder.specs.Windows.{IsMaking}
+use Rattle.camxpt_c.specs.Keeping.{Keeping, IsTextOf, fresh_keeping, said}
 use Rattle.camxpt_c.specs.declared.codes.TheConstants.{OK, NONE, E_CLOSED, E_OPEN, E_MEMORY, E_LIMIT, E_UNIT, E_WINDOW}
 use Rattle.camxpt_c.specs.declared.record_shapes.CamxptSpan.{CamxptSpan}
 use Rattle.camxpt_c.specs.declared.record_shapes.CamxptWindow.{CamxptWindow}
@@ -16,15 +17,11 @@ recorder_opening_fault span window room =
     else if nat_lt SECONDS span.unit then Some E_UNIT
     else None
 
--- there is a recorder, and no text of a window
-abbrev pub IsFresh : Option Keeping → Type 0
-IsFresh new = MatchOption new ⊥ (λ k. k.text ≡ None)
-
--- An open handle stays as it is. A closed one is opened, or isn't for this fault or for want of memory.
-abbrev pub IsRecorderOpening : Option ℤ → Option Keeping → Option Keeping → ℤ → Type 0
-IsRecorderOpening fault old new code =
+-- An open handle stays as it is. A closed one is opened, with nothing noted, or isn't for this fault or for want of memory.
+abbrev pub IsRecorderOpening : ℕ → Option ℤ → Option Keeping → Option Keeping → ℤ → Type 0
+IsRecorderOpening room fault old new code =
     MatchOption old
-    (MatchOption fault (((code ≡ OK) × IsFresh new) ⊎ ((code ≡ E_MEMORY) × (new ≡ None))) (λ why. (code ≡ why) × (new ≡ None)))
+    (MatchOption fault (((code ≡ OK) × (new ≡ Some (fresh_keeping room))) ⊎ ((code ≡ E_MEMORY) × (new ≡ None))) (λ why. (code ≡ why) × (new ≡ None)))
     (λ k. (code ≡ E_OPEN) × (new ≡ Some k))
 
 -- A closed handle stays closed. An open one stays open, and its recorder does something.
@@ -32,17 +29,18 @@ abbrev pub IsRecorderCall : (Keeping → Keeping → ℤ → Type 0) → Option 
 IsRecorderCall Does old new code =
     MatchOption old ((code ≡ E_CLOSED) × (new ≡ None)) (λ k. MatchOption new ⊥ (λ m. Does k m code))
 
--- A text that waits to be written stays, and nothing changes. What there is then is said; if there is none, nothing is given.
+-- Bytes that wait to be written stay, and nothing changes. If there are none, the next window is made, which is lost only at E_WINDOW, and
+-- the bytes of its recording. What there is then is said; if there is nothing, nothing is given.
 abbrev pub IsMade : CamxptWindow → CamxptWindow → Keeping → Keeping → ℤ → Type 0
 IsMade before after old new code =
-    IfSome old.text (λ _. new ≡ old)
+    MatchOption old.text (IsMaking (code ≡ E_WINDOW) old.recorded new.recorded) (λ _. new ≡ old)
     × MatchOption new.text
     (((code ≡ NONE) ⊎ (code ≡ E_MEMORY) ⊎ (code ≡ E_WINDOW)) × (after ≡ before))
-    (λ text. (code ≡ OK) × (after.size ≡ length text) × (after.number ≡ new.windows))
+    (λ text. (code ≡ OK) × MatchOption new.recorded.window ⊥ (λ w. IsTextOf w text × (after ≡ said w text)))
 
--- a text that waits is due
+-- a window that waits is due, and so are bytes that wait
 abbrev pub IsDueAnswer : Keeping → Keeping → ℤ → Type 0
-IsDueAnswer old new code = ((code ≡ OK) ⊎ ((code ≡ NONE) × (old.text ≡ None))) × (new ≡ old)
+IsDueAnswer old new code = ((code ≡ OK) ⊎ ((code ≡ NONE) × (old.text ≡ None) × (old.recorded.window ≡ None) × (old.recorded.cut ≡ None))) × (new ≡ old)
 
 -- how a window ends, by its number
 abbrev pub ending_of : ℕ → Ending

@@ -4,7 +4,7 @@ ghost use Rattle.std.specs.Prelude.{ℕ, ◌≡◌, ◌⊎◌, None, Some, nat_l
 ghost use Rattle.request_notes.specs.Faults.{cancel_fault, done_fault, start_fault};
 ghost use Rattle.recorder.specs.Recorder.{recorder_fault};
 ghost use Rattle.recorder.specs.declared.recorder.TheConstants.{MAX_DEVICES, MAX_DRIVERS};
-ghost use Rattle.camxpt_c.specs.Keeping.{arrival_noted, start_noted, done_noted, cancel_noted, one_device_more, one_driver_more, IsNoted, IsAdded, IsRead};
+ghost use Rattle.camxpt_c.specs.Keeping.{arrival_noted, start_noted, done_noted, cancel_noted, one_device_more, one_driver_more, IsNoted, IsAdded, IsRead, written};
 ghost use Rattle.camxpt_c.specs.RecorderCalls.{ending_of, recorder_opening_fault, IsRecorderOpening, IsRecorderCall, IsMade, IsDueAnswer};
 ghost use Rattle.camxpt_c.specs.declared.codes.TheConstants.{OK, E_CLOSED, E_MEMORY};
 
@@ -33,7 +33,7 @@ pub extern "C" fn camxpt_raw_recorder_open(
     window: u64,
     room: u32,
 ) -> i32
-    ensures { IsRecorderOpening (recorder_opening_fault round.now window room) handle.old.body.kept handle.new.body.kept result }
+    ensures { IsRecorderOpening room (recorder_opening_fault round.now window room) handle.old.body.kept handle.new.body.kept result }
 {
     if let Some(port) = handle.take(alloc) {
         handle.put(port);
@@ -261,7 +261,7 @@ pub extern "C" fn camxpt_raw_recorder_read(
 /// Lets go of the window and of its bytes, which were written.
 #[unsafe(no_mangle)]
 pub extern "C" fn camxpt_raw_recorder_written(alloc: Global, handle: &mut CamXptRecorder) -> i32
-    ensures { IsRecorderCall (λ _ m code. (code ≡ OK) × (m.text ≡ None)) handle.old.body.kept handle.new.body.kept result }
+    ensures { IsRecorderCall (λ k m code. (code ≡ OK) × (m ≡ written k)) handle.old.body.kept handle.new.body.kept result }
 {
     let Some(mut port) = handle.take(alloc) else {
         return E_CLOSED;

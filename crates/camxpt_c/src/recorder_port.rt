@@ -1,11 +1,12 @@
 //! A recorder with the bytes of the recording that it made last.
 
 ghost use Rattle.std.specs.Result.{result_err};
-ghost use Rattle.std.specs.Prelude.{◌≡◌, ◌⊎◌, ◌++◌, min, take, drop, nat_lt, ◌||◌, true, None, is_some, length, IfSome, IfOk, IfErr};
+ghost use Rattle.std.specs.Prelude.{◌≡◌, ◌⊎◌, ◌++◌, min, take, drop, nat_lt, true, None, is_some, length, IsSome, IfSome, IfOk, IfErr, MatchOption, MatchResult};
 ghost use Rattle.request_notes.specs.Faults.{cancel_fault, done_fault, start_fault};
 ghost use Rattle.recorder.specs.Recorder.{recorder_fault};
+ghost use Rattle.recorder.specs.Windows.{IsMaking};
 ghost use Rattle.recorder.specs.declared.recorder.TheConstants.{MAX_DEVICES, MAX_DRIVERS};
-ghost use Rattle.camxpt_c.specs.Keeping.{answer, arrival_noted, start_noted, done_noted, cancel_noted, one_device_more, one_driver_more, IsNoted, IsAdded, IsRead};
+ghost use Rattle.camxpt_c.specs.Keeping.{answer, arrival_noted, start_noted, done_noted, cancel_noted, one_device_more, one_driver_more, IsNoted, IsAdded, IsRead, IsTextOf, fresh_keeping, said, written};
 ghost use Rattle.camxpt_c.specs.declared.codes.TheConstants.{OK, E_MEMORY, E_WINDOW};
 
 use crate::codes::{E_LIMIT, E_MEMORY, E_WINDOW, NONE, OK, note_code};
@@ -18,21 +19,22 @@ use std::alloc::{AllocError, Global};
 use std::marker::Model;
 use window_recordings::{CutFault, CutWindow, Ending};
 
-/// A recorder, how many windows it made, and the bytes of the last one's recording until they are written.
+/// A recorder, and the bytes of a window's recording until they are written.
 #[derive(Drop)]
 pub struct RecorderPort {
     recorder: Recorder,
-    windows: u64,
     text: Option<Vec<u8>>,
 }
 
 impl Model for RecorderPort {
     ghost use Rattle.std.specs.Prelude.{option_map};
-    ghost use Rattle.camxpt_c.specs.Keeping.{Keeping};
+    ghost use Rattle.camxpt_c.specs.Keeping.{Keeping, IsKeeping};
 
     ghost Value = { Keeping };
 
-    ghost view = { λ p. record { recorded = p.recorder; windows = p.windows; text = option_map (λ t. t.items) p.text } };
+    ghost view = { λ p. record { recorded = p.recorder; text = option_map (λ t. t.items) p.text } };
+
+    ghost invariant = { λ p. IsKeeping (record { recorded = p.recorder; text = option_map (λ t. t.items) p.text }) };
 }
 
 impl RecorderPort {
@@ -43,11 +45,10 @@ impl RecorderPort {
         window: u64,
         room: u32,
     ) -> Result<RecorderPort, AllocError>
-        ensures { IfOk result (λ p. p.text ≡ None) }
+        ensures { IfOk result (λ p. p ≡ fresh_keeping room) }
     {
         Ok(RecorderPort {
             recorder: Recorder::new(alloc, round, window, room)?,
-            windows: 0,
             text: None,
         })
     }
@@ -118,7 +119,9 @@ impl RecorderPort {
 
     /// Whether a window is over, or its recording waits to be written.
     pub fn is_due(&self) -> bool
-        ensures { IfSome self.now.text (λ _. result ≡ true) }
+        ensures text { IsSome self.now.text → result ≡ true }
+        ensures window { IsSome self.now.recorded.window → result ≡ true }
+        ensures cut { IsSome self.now.recorded.cut → result ≡ true }
     {
         self.text.is_some() || self.recorder.is_due()
     }
@@ -126,7 +129,7 @@ impl RecorderPort {
     /// Makes the next window and the bytes of its recording, if one is over and none wait to be written. True if there are some; there is
     /// no byte if nothing was started in the window. If no memory is left, nothing is lost, and the call can be made again.
     pub fn make(&mut self, alloc: Global, ending: Ending) -> Result<bool, i32>
-        ensures same { IfSome self.old.text (λ _. self.new ≡ self.old) }
+        ensures making { MatchOption self.old.text (IsMaking (MatchResult result (λ _. ⊥) (λ code. code ≡ E_WINDOW)) self.old.recorded self.new.recorded) (λ _. self.new ≡ self.old) }
         ensures ok { IfOk result (λ is_there. is_there ≡ is_some self.new.text) }
         ensures err { IfErr result (λ code. (self.new.text ≡ None) × ((code ≡ E_MEMORY) ⊎ (code ≡ E_WINDOW))) }
     {
@@ -134,25 +137,26 @@ impl RecorderPort {
             return Ok(true);
         }
         match self.recorder.make_window(ending) {
-            Ok(true) => {}
-            Ok(false) => return Ok(false),
+            Ok(_) => {}
             Err(CutFault::OutOfMemory) => return Err(E_MEMORY),
             Err(_) => return Err(E_WINDOW),
         }
-        let Ok(text) = text_of(alloc, self.recorder.window()) else {
+        let Some(window) = self.recorder.window() else {
+            return Ok(false);
+        };
+        let Ok(text) = text_of(alloc, window) else {
             return Err(E_MEMORY);
         };
         self.text = Some(text);
-        self.windows = self.windows.saturating_add(1);
         Ok(true)
     }
 
     /// What there is to say of the window that was made.
     pub fn window(&self) -> CamxptWindow
-        ensures { IfSome self.now.text (λ text. (result.size ≡ length text) × (result.number ≡ self.now.windows)) }
+        ensures { IfSome self.now.text (λ text. MatchOption self.now.recorded.window ⊥ (λ w. IsTextOf w text × (result ≡ said w text))) }
     {
         let mut shape = CamxptWindow {
-            number: self.windows,
+            number: 0,
             from_ns: 0,
             until_ns: 0,
             requests: 0,
@@ -162,6 +166,7 @@ impl RecorderPort {
             offset: 0,
         };
         if let Some(window) = self.recorder.window() {
+            shape.number = window.number;
             shape.from_ns = window.from;
             shape.until_ns = window.until;
             shape.requests = window.requests as u64;
@@ -187,18 +192,17 @@ impl RecorderPort {
 
     /// Lets go of the window and of its bytes, which were written.
     pub fn written(&mut self)
-        ensures { self.new.text ≡ None }
+        ensures { self.new ≡ written self.old }
     {
         self.text = None;
         self.recorder.drop_window();
     }
 }
 
-// The bytes of the window's recording: none if nothing was started in it.
-fn text_of(alloc: Global, window: Option<&CutWindow>) -> Result<Vec<u8>, AllocError> {
-    let Some(window) = window else {
-        return Ok(Vec::new(alloc));
-    };
+// The bytes of a window's recording: none if nothing was started in it.
+fn text_of(alloc: Global, window: &CutWindow) -> Result<Vec<u8>, AllocError>
+    ensures { IfOk result (λ text. IsTextOf window.now text.items) }
+{
     match &window.recording {
         Some(recording) => bytes_of(alloc, recording),
         None => Ok(Vec::new(alloc)),

@@ -9,6 +9,7 @@ pub use room::Room;
 pub use shared_adapters::shared_openings;
 pub use span_bounds::{short_from, short_within, span_within};
 pub use span_time::{span_nanoseconds, span_of};
+pub use started::sort_by_arrival;
 pub use timed_request::TimedRequest;
 
 mod cap_rows;

@@ -5,7 +5,7 @@ use crate::line_fault::LineFault;
 use crate::names::Names;
 use crate::options::Options;
 use crate::sizes::Sizes;
-use capture::{DeviceFlight, TimedRequest};
+use capture::{DeviceFlight, TimedRequest, sort_by_arrival};
 use std::alloc::{AllocError, Global};
 
 // The most devices that a capture has.
@@ -75,7 +75,7 @@ pub fn capture_of(
     requests.retain(|request| options.takes_time(request.arrival));
     let others = before.saturating_sub(requests.len()) as u64;
     counts.other_times = counts.other_times.saturating_add(others);
-    requests.sort_by_key(|request| request.arrival)?;
+    sort_by_arrival(&mut requests)?;
     let (used_devices, used_drivers) = used_numbers(
         alloc,
         devices.len(),

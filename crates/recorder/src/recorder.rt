@@ -1,10 +1,12 @@
 //! Records what a driver notes, window by window.
 
-ghost use Rattle.std.specs.Prelude.{◌≡◌, ◌+◌, nat_lt, if◌then◌else◌, IfOk, OnOk, OnErr};
+ghost use Rattle.std.specs.Prelude.{◌≡◌, ◌≢◌, ◌+◌, nat_lt, if◌then◌else◌, None, true, is_some, option_copied, IsSome, IfOk, OnOk, OnErr, MatchOption, MatchResult};
 ghost use Rattle.std.specs.Result.{result_err};
 ghost use Rattle.request_notes.specs.Notes.{arrived, change, done_at, started_at, withdrawn, with_arrival, with_change};
 ghost use Rattle.request_notes.specs.Faults.{cancel_fault, done_fault, start_fault};
-ghost use Rattle.recorder.specs.Recorder.{recorder_fault};
+ghost use Rattle.recorder.specs.Recorder.{nothing_noted, recorder_fault};
+ghost use Rattle.recorder.specs.Windows.{IsCutOff, IsKept, IsMaking};
+ghost use Rattle.window_recordings.specs.declared.cut_fault.CutFault.TheVariants.{OutOfMemory};
 ghost use Rattle.recorder.specs.declared.recorder.TheConstants.{MAX_DEVICES, MAX_DRIVERS};
 
 use recording_file::Span;
@@ -43,7 +45,7 @@ impl Model for Recorder {
 
     ghost Value = { Recorded };
 
-    ghost view = { λ r. record { devices = length r.devices.items; drivers = length r.drivers.items; noted = r.notes } };
+    ghost view = { λ r. record { devices = length r.devices.items; drivers = length r.drivers.items; noted = r.notes; cut = r.cut; window = r.window } };
 }
 
 impl Recorder {
@@ -54,7 +56,9 @@ impl Recorder {
         round: Option<Span>,
         window: u64,
         room: u32,
-    ) -> Result<Recorder, AllocError> {
+    ) -> Result<Recorder, AllocError>
+        ensures { IfOk result (λ r. r ≡ nothing_noted room) }
+    {
         Ok(Recorder {
             alloc,
             notes: Notes::with_capacity(alloc, MAX_DEVICES, MAX_DRIVERS, room)?,
@@ -172,7 +176,10 @@ impl Recorder {
     }
 
     /// Whether a window is over: a second has passed since its end, or its recording waits to be taken.
-    pub fn is_due(&self) -> bool {
+    pub fn is_due(&self) -> bool
+        ensures window { IsSome self.now.window → result ≡ true }
+        ensures cut { IsSome self.now.cut → result ≡ true }
+    {
         self.window.is_some()
             || self.cut.is_some()
             || (self.due > 0 && self.notes.time() >= self.due)
@@ -185,16 +192,44 @@ impl Recorder {
     ///
     /// Why there is no window, or no recording of one. If no memory is left, nothing is lost, and the call can be made again; at another
     /// fault its requests are.
-    pub fn make_window(&mut self, ending: Ending) -> Result<bool, CutFault> {
+    pub fn make_window(&mut self, ending: Ending) -> Result<bool, CutFault>
+        ensures made { IfOk result (λ is_made. is_made ≡ is_some self.new.window) }
+        ensures making { IsMaking (MatchResult result (λ _. ⊥) (λ e. e ≢ OutOfMemory)) self.old self.new }
+    {
         if self.window.is_some() {
             return Ok(true);
         }
         if self.cut.is_none() {
             self.cut(ending)?;
         }
-        let Some(cut) = self.cut.take() else {
-            return Ok(false);
-        };
+        match self.cut.take() {
+            Some(cut) => self.record(cut),
+            None => Ok(false),
+        }
+    }
+
+    /// The window that was made.
+    pub fn window(&self) -> Option<&CutWindow>
+        ensures { option_copied result ≡ self.now.window }
+    {
+        self.window.as_ref()
+    }
+
+    /// Lets go of the window that was made.
+    pub fn drop_window(&mut self)
+        ensures { self.new ≡ record self.old { window = None } }
+    {
+        self.window = None;
+    }
+
+    // Makes the recording of a cut.
+    fn record(&mut self, cut: Cut) -> Result<bool, CutFault>
+        requires cut { self.old.cut ≡ None }
+        requires window { self.old.window ≡ None }
+        ensures made { IfOk result (λ is_made. is_made ≡ is_some self.new.window) }
+        ensures kept { IsKept (MatchResult result (λ _. ⊥) (λ e. e ≢ OutOfMemory)) cut self.new }
+        ensures rest { self.new ≡ record self.old { cut = self.new.cut; window = self.new.window } }
+    {
         let names = Names {
             devices: &self.devices,
             drivers: &self.drivers,
@@ -212,18 +247,13 @@ impl Recorder {
         }
     }
 
-    /// The window that was made.
-    pub fn window(&self) -> Option<&CutWindow> {
-        self.window.as_ref()
-    }
-
-    /// Lets go of the window that was made, and from then on of the notes that are in it.
-    pub fn drop_window(&mut self) {
-        self.window = None;
-    }
-
     // Cuts off the next window, if one is over, or it ends sooner.
-    fn cut(&mut self, ending: Ending) -> Result<(), CutFault> {
+    fn cut(&mut self, ending: Ending) -> Result<(), CutFault>
+        requires { self.old.cut ≡ None }
+        ensures cut { MatchOption self.new.cut (self.new.noted ≡ self.old.noted) (λ cut. IsCutOff self.old.noted cut self.new.noted) }
+        ensures rest { self.new ≡ record self.old { noted = self.new.noted; cut = self.new.cut } }
+        ensures err { OnErr result (self.new ≡ self.old) }
+    {
         let alloc = self.alloc;
         let attempts = self.notes.attempts();
         self.cutter.set_begin(alloc, attempts, self.devices.len())?;

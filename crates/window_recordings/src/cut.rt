@@ -28,6 +28,8 @@ pub struct Cut {
 /// A window of a capture.
 #[derive(Drop)]
 pub struct CutWindow {
+    /// Its number, from 1 on.
+    pub number: u64,
     /// When its round 1 begins, in nanoseconds of the capture's clock.
     pub from: u64,
     /// When its last round is over.

@@ -20,8 +20,6 @@ pub enum CutFault {
     TooManyDevices(usize),
     /// So many requests go on after it, more than 1,048,576.
     TooManyOpen(usize),
-    /// Each round that doesn't hide the waits makes more than 65,535 rounds. The longest of them in nanoseconds.
-    NoRound(u64),
     /// There is no memory left.
     OutOfMemory,
 }

@@ -67,7 +67,7 @@ impl Cutter {
     ///
     /// # Errors
     ///
-    /// `NoRound` if no round is given and each that doesn't hide the waits is too short; `OutOfMemory` if no memory is left.
+    /// `OutOfMemory` if no memory is left.
     pub fn set_begin(
         &mut self,
         alloc: Global,
@@ -202,30 +202,39 @@ fn rounds_within(
     length: u64,
     count: u32,
 ) -> Result<u32, CutFault> {
-    let until = begin.saturating_add(length.saturating_mul(u64::from(count)));
-    let mut starts = Vec::new(alloc);
+    let mut starts = vec![in alloc; 0u32; count as usize]?;
+    let mut all = 0usize;
     for attempt in attempts {
         if attempt.is_taken
             && let Some(start) = attempt.request.started
             && begin <= start
-            && start < until
+            && let Some(round) = (start - begin).checked_div(length)
+            && let Some(in_round) = starts.get_mut(round as usize)
         {
-            starts.push(start)?;
+            *in_round = in_round.saturating_add(1);
+            all = all.saturating_add(1);
         }
     }
-    if starts.len() <= MAX_STARTS {
+    if all <= MAX_STARTS {
         return Ok(count);
     }
-    starts.sort_unstable();
-    let first_over = starts.get(MAX_STARTS).copied().unwrap_or(until);
-    let rounds = first_over
-        .saturating_sub(begin)
-        .checked_div(length)
-        .unwrap_or(0);
-    match u32::try_from(rounds) {
-        Ok(rounds) if rounds > 0 => Ok(rounds.min(count)),
-        _ => Err(CaptureFault::TooManyRequests(starts.len()).into()),
+    match rounds_before(&starts, MAX_STARTS) {
+        0 => Err(CaptureFault::TooManyRequests(all).into()),
+        rounds => Ok(rounds.min(count)),
     }
+}
+
+// How many rounds, by what starts in each, have no more starts together than that.
+fn rounds_before(starts: &[u32], most: usize) -> u32 {
+    let (mut rounds, mut sum) = (0u32, 0usize);
+    for in_round in starts {
+        sum = sum.saturating_add(*in_round as usize);
+        if sum > most {
+            return rounds;
+        }
+        rounds = rounds.saturating_add(1);
+    }
+    rounds
 }
 
 // A fault of a window as one of the layout or of the capture.

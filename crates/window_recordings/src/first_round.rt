@@ -1,10 +1,11 @@
 //! How long a round is where that isn't given.
 
-use crate::cut_fault::CutFault;
-use capture::{TimedRequest, longest_round, short_from, span_nanoseconds, usual_round};
+use capture::{
+    TimedRequest, longest_round, short_from, span_nanoseconds, span_within, usual_round,
+};
 use capture_windows::{Attempt, MAX_WINDOW_ROUNDS};
-use recording_file::Span;
-use std::alloc::Global;
+use recording_file::{Span, TimeUnit};
+use std::alloc::{AllocError, Global};
 
 // So many starts tell how long requests wait.
 const ENOUGH: usize = 100;
@@ -29,7 +30,7 @@ pub(crate) fn first_round(
     begin: u64,
     until: u64,
     devices: usize,
-) -> Result<Span, CutFault> {
+) -> Result<Span, AllocError> {
     let mut requests: Vec<TimedRequest> = Vec::new(alloc);
     for attempt in attempts {
         if attempt.is_taken && attempt.request.started.is_some_and(|start| start < until) {
@@ -37,21 +38,27 @@ pub(crate) fn first_round(
         }
     }
     let devices = u32::try_from(devices).unwrap_or(u32::MAX);
-    let usual = usual_round(alloc, &requests, devices)?;
-    if requests.len() < ENOUGH {
-        let time = until.saturating_sub(begin) / u64::from(MAX_WINDOW_ROUNDS);
-        let least = short_from(time.saturating_add(1));
-        return match (usual, least) {
-            (Some(usual), Some(least)) if span_nanoseconds(usual) < span_nanoseconds(least) => {
-                Ok(least)
-            }
-            (Some(usual), _) => Ok(usual),
-            (None, Some(least)) => Ok(least),
-            (None, None) => Err(CutFault::NoRound(0)),
-        };
+    let usual = match usual_round(alloc, &requests, devices)? {
+        Some(usual) => usual,
+        None => half_wait(&requests),
+    };
+    let time = until.saturating_sub(begin) / u64::from(MAX_WINDOW_ROUNDS);
+    match short_from(time.saturating_add(1)) {
+        Some(least)
+            if requests.len() < ENOUGH && span_nanoseconds(usual) < span_nanoseconds(least) => {
+            Ok(least)
+        }
+        _ => Ok(usual),
     }
-    match usual {
-        Some(round) => Ok(round),
-        None => Err(CutFault::NoRound(longest_round(&requests).unwrap_or(0))),
+}
+
+// Half of the mean wait. Where that makes too many rounds, windows are shorter.
+fn half_wait(requests: &[TimedRequest]) -> Span {
+    match span_within(longest_round(requests).unwrap_or(1)) {
+        Some(round) => round,
+        None => Span {
+            count: 1,
+            unit: TimeUnit::Nanosecond,
+        },
     }
 }

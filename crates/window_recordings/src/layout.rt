@@ -2,6 +2,7 @@
 
 ghost use Rattle.std.specs.Prelude.{◌≡◌, [], IfOk};
 ghost use Rattle.cam_types.specs.Topology.{Topology};
+ghost use Rattle.window_recordings.specs.Recordings.{HasRounds};
 
 use crate::cut_fault::CutFault;
 use cam_types::{Adapter, Config, ConfigError, Device, standard_weights};
@@ -33,6 +34,7 @@ impl Layout {
     /// # Errors
     ///
     /// `TooManyAdapters` if more than 8 adapters are given, `Capture` if there is no recording of the requests, `OutOfMemory` if no memory is left.
+    #[tactic(auto, unfolding(capture::specs::Captured::recorded_of))]
     pub fn recording(
         &self,
         alloc: Global,
@@ -40,7 +42,9 @@ impl Layout {
         spare: &[Vec<u32>],
         devices: &[String],
         drivers: &[String],
-    ) -> Result<Recording, CutFault> {
+    ) -> Result<Recording, CutFault>
+        ensures { IfOk result (λ r. HasRounds capture.now r) }
+    {
         let (laid, rated) = self.devices_of(alloc, capture, devices)?;
         let (adapters, open) = adapters_of(alloc, &self.hosts, devices, &laid)?;
         let config = config_of(alloc, &adapters, &laid)?;

@@ -14,5 +14,6 @@ mod cutter;
 mod first_round;
 mod layout;
 mod names;
+mod numbers;
 mod parts;
 mod recording;

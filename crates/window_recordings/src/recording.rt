@@ -1,19 +1,19 @@
 //! The recording of what was taken for a window.
 
+ghost use Rattle.std.specs.Prelude.{◌≡◌, IfOk};
+ghost use Rattle.window_recordings.specs.Recordings.{IsMadeOf, IsWholeOf, capture_of, few};
+
 use crate::cut::{Cut, CutWindow};
 use crate::cut_fault::CutFault;
 use crate::layout::Layout;
 use crate::names::Names;
 use crate::parts::WindowParts;
 use cam_types::{Config, Priority};
-use capture::{Capture, TimedRequest};
-use capture_windows::{Rounds, WindowRoom};
+use capture::{Capture, CaptureFault, TimedRequest};
+use capture_windows::{MAX_WINDOW_ROUNDS, Rounds, WindowRoom};
 use recording_file::{Recording, Span};
 use std::alloc::{AllocError, Global};
 use windows::first_window;
-
-// One fewer than a recording may have.
-const MAX_ROUNDS: u32 = 65_534;
 
 /// The recording of a window. Requests that arrive at `end` or later aren't taken.
 ///
@@ -27,14 +27,16 @@ pub fn record(
     names: Names<'_>,
     end: Option<u64>,
     cut: &Cut,
-) -> Result<CutWindow, CutFault> {
+) -> Result<CutWindow, CutFault>
+    ensures { IfOk result (λ w. IsMadeOf end cut.now w) }
+{
     let window = &cut.window;
-    let rounds = window.rounds;
     let mut made = CutWindow {
-        from: rounds.begin,
+        number: cut.number,
+        from: window.rounds.begin,
         until: window.span.until,
         round: cut.round,
-        rounds: rounds.count,
+        rounds: window.rounds.count,
         requests: window.taken.requests.len(),
         carried: 0,
         recording: None,
@@ -43,14 +45,16 @@ pub fn record(
         return Ok(made);
     }
     let whole = recording_of(alloc, layout, names, end, cut)?;
-    // The last round is for those that go on waiting.
-    let last = rounds.count.min(MAX_ROUNDS).min(whole.rounds()).max(1);
-    if last > whole.rounds() {
-        return Ok(made);
-    }
-    made.carried = carried_of(whole.config(), rounds, &window.taken.requests);
-    made.recording = Some(first_window(alloc, &whole, last)?);
+    made.carried = carried_of(whole.config(), window.rounds, &window.taken.requests);
+    made.recording = Some(first_window(alloc, &whole, few(window.rounds.count))?);
     Ok(made)
+}
+
+// How many rounds a window has: at least one, and not too many.
+fn few(count: u32) -> u32
+    ensures { result ≡ few count }
+{
+    count.max(1).min(MAX_WINDOW_ROUNDS)
 }
 
 // The recording of a window, with one round more for those that go on waiting.
@@ -60,7 +64,9 @@ fn recording_of(
     names: Names<'_>,
     end: Option<u64>,
     cut: &Cut,
-) -> Result<Recording, CutFault> {
+) -> Result<Recording, CutFault>
+    ensures { IfOk result (λ r. IsWholeOf end cut.now r) }
+{
     let (window, taken) = (&cut.window, &cut.window.taken);
     let parts = WindowParts::of(
         alloc,
@@ -70,20 +76,21 @@ fn recording_of(
         &taken.waiting,
         window.span.until,
     )?;
+    let capture = capture_of(alloc, cut, &parts.requests)?;
+    let spare = spare_rows(alloc, &parts.places, &taken.rooms)?;
+    layout.recording(alloc, &capture, &spare, &parts.devices, &parts.drivers)
+}
+
+// A capture of a window in its rounds, with one more for those that go on waiting.
+fn capture_of(alloc: Global, cut: &Cut, parts: &[TimedRequest]) -> Result<Capture, CaptureFault>
+    ensures { IfOk result (λ c. c ≡ capture_of cut.now parts.now) }
+{
+    let rounds = cut.window.rounds;
     let round = Span {
         count: cut.round.count.max(1),
         ..cut.round
     };
-    let count = window.rounds.count.clamp(1, MAX_ROUNDS);
-    let capture = Capture::in_rounds_from(
-        alloc,
-        round,
-        window.rounds.begin,
-        count.saturating_add(1),
-        &parts.requests,
-    )?;
-    let spare = spare_rows(alloc, &parts.places, &taken.rooms)?;
-    layout.recording(alloc, &capture, &spare, &parts.devices, &parts.drivers)
+    Capture::in_rounds_from(alloc, round, rounds.begin, few(rounds.count) + 1, parts)
 }
 
 // The starts that devices had room for, in the order of the window's devices.

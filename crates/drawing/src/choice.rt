@@ -1,5 +1,6 @@
 //! Which ranges are drawn.
 
+use crate::order::{items_at, places_by};
 use crate::round_figures::{RoundFigures, count_of};
 use crate::round_range::{MAX_BARS, RoundRange, by_cost, cut};
 use crate::scene::Scene;
@@ -99,11 +100,14 @@ impl Choice {
                 kept.push(*range)?;
             }
         }
-        kept.sort_by_key(|range| range.first)?;
+        let mut firsts = Vec::with_capacity(alloc, kept.len())?;
+        for range in &kept {
+            firsts.push(u64::from(range.first))?;
+        }
         Ok(Choice {
             shown: Shown::Costliest,
             length: LENGTH,
-            ranges: kept,
+            ranges: items_at(alloc, &kept, &places_by(alloc, &firsts)?)?,
         })
     }
 

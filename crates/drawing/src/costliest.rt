@@ -4,10 +4,10 @@ use crate::alike::{Figure, alike_from};
 use crate::bars::push_stay_name;
 use crate::blame_table::push_blame;
 use crate::choice::Choice;
+use crate::order::{items_at, places_from_greatest};
 use crate::scene::{Scene, parts_by_cost};
 use recording_file::{NameKind, Span};
 use std::alloc::AllocError;
-use std::cmp::Reverse;
 use wait_causes::{ExplainedStay, Grouping, Row};
 use wording::{
     Page, push_end, push_number, push_numbers, push_range, push_share, push_signed, push_span,
@@ -67,13 +67,15 @@ fn push_part(page: &mut Page, scene: &Scene, by: Grouping, row: &Row) {
 
 // Puts the rows of the costliest stays on the page, as far as they cost anything: those that are alike in one row.
 fn push_stays(page: &mut Page, scene: &Scene, choice: &Choice) -> Result<(), AllocError> {
-    let mut stays = Vec::new(scene.alloc);
+    let (mut stays, mut costs) = (Vec::new(scene.alloc), Vec::new(scene.alloc));
     for stay in scene.explanation.stays() {
         if stay.cost() > 0 {
             stays.push(stay)?;
+            costs.push(stay.cost())?;
         }
     }
-    stays.sort_by_key(|stay| Reverse(stay.cost()))?;
+    let places = places_from_greatest(scene.alloc, &costs)?;
+    let stays = items_at(scene.alloc, &stays, &places)?;
     let mut place = 0usize;
     for _ in 0..LISTED {
         let row = alike_from(scene.explanation.kind(), &stays, place);

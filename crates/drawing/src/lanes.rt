@@ -1,5 +1,6 @@
 //! Lanes of bars: stays that are drawn side by side don't cover one another.
 
+use crate::order::{items_at, places_by};
 use crate::scene::Scene;
 use crate::slots::Slots;
 use std::alloc::{AllocError, Global};
@@ -13,9 +14,9 @@ pub(crate) fn lanes_of(
 ) -> Result<Vec<Vec<usize>>, AllocError> {
     let mut slots = Slots::new(scene.alloc);
     let mut lanes = Vec::new(scene.alloc);
-    for (arrival, place) in &arrivals(scene, places, device)? {
+    for place in &by_arrival(scene, places, device)? {
         if let Some(stay) = scene.explanation.stays().get(*place) {
-            let slot = slots.take(*arrival, stay.live.max(stay.best))?;
+            let slot = slots.take(stay.arrival, stay.live.max(stay.best))?;
             put_in(scene.alloc, &mut lanes, slot as usize, *place)?;
         }
     }
@@ -38,17 +39,17 @@ fn put_in(
     Ok(())
 }
 
-// Those of these places at which a stay of the device is, each after the stay's arrival, in the order in which they arrived;
-// of those of one round the smaller place first.
-fn arrivals(scene: &Scene, places: &[usize], device: u32) -> Result<Vec<(u32, usize)>, AllocError> {
-    let mut arrivals = Vec::new(scene.alloc);
+// Those of these places at which a stay of the device is, in the order in which they arrived; of those of one round in the order
+// given.
+fn by_arrival(scene: &Scene, places: &[usize], device: u32) -> Result<Vec<usize>, AllocError> {
+    let (mut found, mut arrivals) = (Vec::new(scene.alloc), Vec::new(scene.alloc));
     for place in places {
         if let Some(stay) = scene.explanation.stays().get(*place)
             && stay.device == device
         {
-            arrivals.push((stay.arrival, *place))?;
+            found.push(*place)?;
+            arrivals.push(u64::from(stay.arrival))?;
         }
     }
-    arrivals.sort_unstable();
-    Ok(arrivals)
+    items_at(scene.alloc, &found, &places_by(scene.alloc, &arrivals)?)
 }

@@ -1,8 +1,8 @@
 //! Ranges of rounds whose bars are drawn together.
 
+use crate::order::{items_at, places_from_greatest};
 use crate::round_figures::{RoundFigures, count_of};
 use std::alloc::{AllocError, Global};
-use std::cmp::Reverse;
 use wait_causes::ExplainedStay;
 
 /// The most bars of a page that doesn't have all, and of a range.
@@ -84,12 +84,36 @@ impl RoundRange {
                 places.push(place)?;
             }
         }
-        if places.len() > MAX_BARS {
-            places.sort_by_key(|place| Reverse(self.cost_of(stays, *place)))?;
-            places.truncate(MAX_BARS);
-            places.sort_unstable();
+        if places.len() <= MAX_BARS {
+            return Ok(places);
         }
-        Ok(places)
+        self.costliest(alloc, stays, &places)
+    }
+
+    // The costliest of these places, in the order given, as many as are drawn of a range.
+    fn costliest(
+        &self,
+        alloc: Global,
+        stays: &[ExplainedStay],
+        places: &[usize],
+    ) -> Result<Vec<usize>, AllocError> {
+        let mut costs = Vec::with_capacity(alloc, places.len())?;
+        for place in places {
+            costs.push(self.cost_of(stays, *place))?;
+        }
+        let mut is_drawn = vec![in alloc; false; places.len()]?;
+        for at in places_from_greatest(alloc, &costs)?.iter().take(MAX_BARS) {
+            if let Some(is_drawn) = is_drawn.get_mut(*at) {
+                *is_drawn = true;
+            }
+        }
+        let mut drawn = Vec::with_capacity(alloc, MAX_BARS)?;
+        for (place, is_drawn) in places.iter().zip(&is_drawn) {
+            if *is_drawn {
+                drawn.push(*place)?;
+            }
+        }
+        Ok(drawn)
     }
 }
 
@@ -111,7 +135,9 @@ pub(crate) fn cut(
 
 /// These ranges, the costliest first; of equal ones the earlier one.
 pub(crate) fn by_cost(alloc: Global, ranges: &[RoundRange]) -> Result<Vec<RoundRange>, AllocError> {
-    let mut sorted = Vec::from_slice(alloc, ranges)?;
-    sorted.sort_by_key(|range| Reverse(range.cost))?;
-    Ok(sorted)
+    let mut costs = Vec::with_capacity(alloc, ranges.len())?;
+    for range in ranges {
+        costs.push(range.cost)?;
+    }
+    items_at(alloc, ranges, &places_from_greatest(alloc, &costs)?)
 }

@@ -1,10 +1,10 @@
 //! What a page is drawn from, and what drivers, devices, adapters and links are called on it.
 
+use crate::order::{items_at, places_from_greatest};
 use cam_path::path_name;
 use recording_file::NameKind;
 use round_net::Net;
 use std::alloc::{AllocError, Global};
-use std::cmp::Reverse;
 use wait_causes::{Explanation, Grouping, Part, Row};
 use wording::{Captions, Page, push_number};
 
@@ -108,7 +108,10 @@ pub(crate) fn parts_by_cost(
     explanation: &Explanation,
     by: Grouping,
 ) -> Result<Vec<Row>, AllocError> {
-    let mut rows = explanation.table(alloc, by)?;
-    rows.sort_by_key(|row| Reverse(row.part.live))?;
-    Ok(rows)
+    let rows = explanation.table(alloc, by)?;
+    let mut costs = Vec::with_capacity(alloc, rows.len())?;
+    for row in &rows {
+        costs.push(row.part.live)?;
+    }
+    items_at(alloc, &rows, &places_from_greatest(alloc, &costs)?)
 }

@@ -1,10 +1,10 @@
 //! The tables of parts and freezes.
 
+use crate::order::places_from_greatest;
 use crate::scene::{Scene, parts_by_cost};
 use crate::words::freeze_words;
 use recording_file::NameKind;
 use std::alloc::AllocError;
-use std::cmp::Reverse;
 use wait_causes::{Freeze, FreezeKind, Grouping, Part, Row};
 use wording::{ByWeight, Page, WaitRanks, level_waits, push_number, push_numbers, push_signed};
 
@@ -192,14 +192,20 @@ fn push_ranks(page: &mut Page, ranks: Option<WaitRanks>) {
 
 /// Puts the table of the costliest freezes on the page, if there are some.
 pub(crate) fn push_freezes(page: &mut Page, scene: &Scene) -> Result<(), AllocError> {
-    let mut freezes = scene.explanation.freezes(scene.alloc)?;
+    let freezes = scene.explanation.freezes(scene.alloc)?;
     if freezes.is_empty() {
         return Ok(());
     }
-    freezes.sort_by_key(|freeze| Reverse(freeze.cost))?;
+    let mut costs = Vec::with_capacity(scene.alloc, freezes.len())?;
+    for freeze in &freezes {
+        costs.push(freeze.cost)?;
+    }
+    let places = places_from_greatest(scene.alloc, &costs)?;
     page.put(FREEZES);
-    for freeze in freezes.iter().take(LISTED) {
-        push_freeze(page, scene, freeze);
+    for place in places.iter().take(LISTED) {
+        if let Some(freeze) = freezes.get(*place) {
+            push_freeze(page, scene, freeze);
+        }
     }
     page.put("</tbody></table></section>\n");
     Ok(())

@@ -50,7 +50,7 @@ extern "C" {
 #endif
 
 /** The version of this header, as `camxpt --version` has it. */
-#define CAMXPT_VERSION "0.6.0"
+#define CAMXPT_VERSION "0.6.1"
 
 /** The version of the library: CAMXPT_VERSION if it is of this header. */
 const char *camxpt_version(void);
@@ -681,8 +681,8 @@ CAMXPT_NODISCARD camxpt_code camxpt_recorder_open(camxpt_recorder *r, const camx
  *  over are written, one after the other, before the call returns. At CAMXPT_E_WRITE and CAMXPT_E_MEMORY the note was taken and
  *  nothing is lost: the window is kept, and its recording is written anew from its first byte with the next note that is taken,
  *  or with camxpt_recorder_close. At CAMXPT_E_WINDOW the note was taken, and a window can't be made: a device had more requests
- *  in flight than its depth, there are too many requests, or no round is given and each that is short enough makes too many. The
- *  window is lost. Where that stays so, no more are made, and each note that is taken answers so: close the recorder. */
+ *  in flight than its depth, or there are too many requests. The window is lost. Where that stays so, no more are made, and each
+ *  note that is taken answers so: close the recorder. */
 CAMXPT_NODISCARD camxpt_code camxpt_note_arrival(camxpt_recorder *r, uint64_t id, uint32_t device, uint8_t driver,
                                                  uint32_t priority, uint64_t ns);
 

@@ -164,7 +164,8 @@ static struct note *notes, *taken;
 static size_t note_count;
 static uint64_t last_id, clock_base;
 static pthread_t recording_thread;
-static bool is_recording, is_over;
+/* Over: no note comes any more. Closing: the recording thread has ended, and what is left is written. */
+static bool is_recording, is_over, is_closing;
 
 static camxpt_recorder recorder = CAMXPT_RECORDER_INIT;
 /* Something of the recordings or the trace is lost: the status is 1. */
@@ -189,8 +190,8 @@ static void note(enum note_kind kind, uint64_t id, unsigned driver)
         notes[note_count++] = (struct note){ id, now(), (uint8_t)kind, (uint8_t)driver };
 }
 
-/* One of notes is behind: no request enters until they were taken. Those that have entered make a few notes each. */
-static bool has_notes_left(void)
+/* If many notes wait for the recorder, no request enters until they were taken. Those that have entered make a few notes each. */
+static bool has_room_for_notes(void)
 {
     return note_count <= MAX_NOTES / 2;
 }
@@ -212,7 +213,7 @@ static int write_window(void *user, const camxpt_window *window, const void *byt
     static FILE *out;
     static uint64_t wait_until;
     (void)user;
-    if (now() < wait_until && !is_over)
+    if (now() < wait_until && !is_closing)
         return 1;
     if (window->offset == 0) {
         snprintf(path, sizeof path, "%s/%" PRIu64 ".%06" PRIu64 ".csv", folder, window->from_ns / 1000000000,
@@ -346,6 +347,7 @@ static void end_recording(void)
     is_over = true;
     pthread_mutex_unlock(&lock);
     pthread_join(recording_thread, NULL);
+    is_closing = true;
     const camxpt_code code = camxpt_recorder_close(&recorder);
     if (code != CAMXPT_OK) {
         nbdkit_error("recordings=%s: not all were written: %s", folder, camxpt_code_name(code));
@@ -533,7 +535,7 @@ static uint8_t tried(const struct job *job, uint32_t number, int *error)
 /* Takes the request into the queue, once there is room. It is refused if there is no transport, nor memory for one. */
 static void enter(struct request *request)
 {
-    while (!has_notes_left())
+    while (!has_room_for_notes())
         pthread_cond_wait(&room, &lock);
     arrive(request);
     while (alive == MAX_CCBS)

@@ -3,9 +3,7 @@ pub mod HandLemmas
 pub mod LawLemmas
 mod MakingLemmas
 pub mod PortLemmas
-pub mod TallyLemmas
-pub mod TotalLemmas
-pub mod CaseLemmas
+pub mod CountLemmas
 pub mod RecordingLemmas
 pub mod SenseLemmas
 pub mod Bodies

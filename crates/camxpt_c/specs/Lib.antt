@@ -11,8 +11,6 @@ pub mod Recordings
 pub mod CallTerms
 pub mod Shapes
 pub mod Tracing
-pub mod Tally
-pub mod Tallies
 pub mod Held
 pub mod Laws
 pub mod Keeping

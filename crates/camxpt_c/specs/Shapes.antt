@@ -1,13 +1,19 @@
 -- what the structs of C's say
-use Rattle.std.specs.Prelude.{ℕ, ◌≡◌}
+use Rattle.std.specs.Prelude.{ℕ, ◌≡◌, List, length, Option, Some, None, if◌then◌else◌, count_by}
+use Rattle.cam_types.specs.Questions.{names_device}
+use Rattle.cam_types.specs.Topology.{Topology}
 use Rattle.cam_types.specs.declared.command.Command.{Command}
+use Rattle.event_rules.specs.Counts.{caller_count, ccbs, error_count}
+use Rattle.event_rules.specs.Head.{openings}
+use Rattle.event_rules.specs.Stays.{queue}
+use Rattle.event_rules.specs.declared.event.Event.{Event}
+use Rattle.xpt_core.specs.Device.{is_in_flight_at, later, next_openings}
 use Rattle.camxpt_c.specs.Codes.{class_code}
 use Rattle.camxpt_c.specs.declared.shapes.CamxptCommand.{CamxptCommand}
 use Rattle.camxpt_c.specs.declared.shapes.CamxptDone.{CamxptDone}
 use Rattle.camxpt_c.specs.declared.shapes.CamxptCase.{CamxptCase}
 use Rattle.camxpt_c.specs.declared.shapes.CamxptLook.{CamxptLook}
 use Rattle.camxpt_c.specs.declared.shapes.CamxptDeviceCounts.{CamxptDeviceCounts}
-use Rattle.camxpt_c.specs.declared.tally.Tally.{Tally}
 use Rattle.xpt_state.specs.declared.done.Done as done
 use Rattle.xpt_state.specs.declared.look.Case as case
 use Rattle.xpt_state.specs.declared.look.Look as look
@@ -31,13 +37,17 @@ IsLook l shape =
     × (shape.waiting ≡ l.waiting) × (shape.heads ≡ l.heads)
 
 -- the counts of a device
-abbrev pub device_counts_of : Tally → CamxptDeviceCounts
-device_counts_of t = record {
-  queued = t.queued;
-  requeued = t.requeued;
-  in_flight = t.in_flight;
-  openings = t.openings;
-  next_openings = t.next_openings;
-  callers = t.callers;
-  errors = t.errors;
+abbrev pub device_counts : Topology → List Event → ℕ → CamxptDeviceCounts
+device_counts c events d = record {
+  queued = length (queue events d);
+  requeued = length (later events d);
+  in_flight = count_by (is_in_flight_at events d) (ccbs events);
+  openings = openings c events d;
+  next_openings = next_openings c events d;
+  callers = caller_count events d;
+  errors = error_count events d;
 }
+
+-- the same, if there is such a device
+abbrev pub counts_at : Topology → List Event → ℕ → Option CamxptDeviceCounts
+counts_at c events d = if names_device c d then Some (device_counts c events d) else None

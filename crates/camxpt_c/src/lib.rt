@@ -25,6 +25,4 @@ mod recording;
 mod recording_items;
 mod sending;
 mod shapes;
-mod tallies;
-mod tally;
 mod tracing;

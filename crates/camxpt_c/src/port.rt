@@ -1,16 +1,14 @@
 //! A transport with what is kept beside it for C.
 
-ghost use Rattle.std.specs.Prelude.{◌≡◌, ◌<◌, slice_get, IfSome, vec_len, vec_capacity};
+ghost use Rattle.std.specs.Prelude.{◌≡◌, ◌<◌, IfSome, vec_len, vec_capacity};
 ghost use Rattle.event_rules.specs.Event.{submission_of};
 ghost use Rattle.camxpt_c.specs.Attached.{users_after};
 
-use crate::tallies::Tallies;
-use crate::tally::Tally;
 use cam_types::{Config, Limits};
 use event_rules::{Event, Refusal};
 use std::alloc::{AllocError, Global};
 use std::marker::Model;
-use xpt_state::{Case, Reply, Sent, Xpt};
+use xpt_state::{Reply, Sent, Xpt};
 
 /// A transport, and a pointer of the caller's for each of its CCBs. Nothing grows after `open`.
 #[derive(Drop)]
@@ -18,7 +16,6 @@ pub struct Port {
     xpt: Xpt,
     // The pointers by the number of the CCB.
     users: Vec<u64>,
-    tallies: Tallies,
 }
 
 impl Model for Port {
@@ -34,12 +31,10 @@ impl Model for Port {
 
 impl Port {
     ghost use Rattle.std.specs.Prelude.{length, slice_set, IfOk};
-    ghost use Rattle.event_rules.specs.Counts.{alive, commands};
+    ghost use Rattle.event_rules.specs.Counts.{commands};
     ghost use Rattle.event_rules.specs.Legal.{rules_of};
-    ghost use Rattle.event_rules.specs.Stays.{stays_begun};
     ghost use Rattle.camxpt_c.specs.Attached.{user_of, IsPortStep, IsPortLaneStep};
     ghost use Rattle.camxpt_c.specs.Openings.{opened_port};
-    ghost use Rattle.camxpt_c.specs.Tallies.{device_at, nth_case};
 
     /// A transport to which nothing has happened, with memory for all that the limits let happen.
     pub fn open(alloc: Global, config: Config, limits: Limits) -> Result<Port, AllocError>
@@ -47,11 +42,9 @@ impl Port {
     {
         let xpt = Xpt::open(alloc, config, limits)?;
         let stays = xpt.rules().stays() as usize;
-        let tallies = Tallies::open(alloc, xpt.config().devices(), stays)?;
         Ok(Port {
             xpt,
             users: Vec::with_capacity(alloc, stays)?,
-            tallies,
         })
     }
 
@@ -109,7 +102,6 @@ impl Port {
         ensures numbered { length self.old.users ≡ commands self.old.xpt.events }
     {
         let reply = self.xpt.take(event)?;
-        self.tallies.count(&event, &reply);
         keep_user(&mut self.users, &event, user);
         Ok(reply)
     }
@@ -118,56 +110,8 @@ impl Port {
     pub fn send_next(&mut self, lane: u32) -> Result<Sent, Refusal>
         ensures { IsPortLaneStep self.old lane self.new result }
     {
-        let sent = self.xpt.send_next(lane)?;
-        if let Sent::Command(command) = sent {
-            let event = Event::Send {
-                lane,
-                ccb: command.ccb,
-            };
-            self.tallies.count(&event, &Reply::Nothing);
-        }
-        Ok(sent)
+        self.xpt.send_next(lane)
     }
-
-    /// How many stays have begun.
-    pub fn stay_count(&self) -> u32
-        ensures { result ≡ length (stays_begun self.now.xpt.events) }
-    {
-        self.tallies.stays
-    }
-
-    /// How many CCBs are alive.
-    pub fn alive(&self) -> u32
-        ensures { result ≡ alive self.now.xpt.events }
-    {
-        self.tallies.alive
-    }
-
-    /// What is counted of a device.
-    pub(crate) fn device(&self, device: u32) -> Option<Tally>
-        ensures { result ≡ device_at self.now.xpt.config self.now.xpt.events device }
-    {
-        tally_at(&self.tallies.devices, device)
-    }
-
-    /// Of the CCBs that wait for a decision, the one that completed with this many before it.
-    pub fn nth_case(&self, number: usize) -> Option<Case>
-        ensures { result ≡ nth_case self.now.xpt.events number }
-    {
-        case_at(&self.tallies.cases, number)
-    }
-}
-
-fn tally_at(tallies: &[Tally], device: u32) -> Option<Tally>
-    ensures { result ≡ slice_get tallies.now device }
-{
-    tallies.get(device as usize).copied()
-}
-
-fn case_at(cases: &[Case], number: usize) -> Option<Case>
-    ensures { result ≡ slice_get cases.now number }
-{
-    cases.get(number).copied()
 }
 
 // Keeps the pointer of a submit.

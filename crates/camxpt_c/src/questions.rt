@@ -1,21 +1,22 @@
 //! What there is to see. Nothing changes.
 
-ghost use Rattle.std.specs.Prelude.{◌≡◌, MatchOption, length, if◌then◌else◌};
+ghost use Rattle.std.specs.Prelude.{◌≡◌, ◌<◌, MatchOption, length, if◌then◌else◌};
 ghost use Rattle.event_rules.specs.Counts.{alive};
 ghost use Rattle.event_rules.specs.Stays.{stays_begun};
 ghost use Rattle.event_rules.specs.declared.refusal.Refusal.TheVariants.{NoDevice};
-ghost use Rattle.xpt_state.specs.Looks.{look as look_of, has_head};
+ghost use Rattle.xpt_state.specs.Looks.{look as look_of, has_head, nth_case};
 ghost use Rattle.camxpt_c.specs.Attached.{user_of};
 ghost use Rattle.camxpt_c.specs.Codes.{code_of};
-ghost use Rattle.camxpt_c.specs.Shapes.{device_counts_of, IsCase, IsLook};
-ghost use Rattle.camxpt_c.specs.Tallies.{device_at, nth_case};
+ghost use Rattle.camxpt_c.specs.Shapes.{counts_at, device_counts, IsCase, IsLook};
 ghost use Rattle.camxpt_c.specs.declared.codes.TheConstants.{OK, NONE, E_CLOSED};
 
 use crate::codes::{E_CLOSED, NONE, OK, code_of};
 use crate::handle::CamXpt;
-use crate::shapes::{CamxptCase, CamxptDeviceCounts, CamxptLook, case_shape, device_counts_shape};
+use crate::shapes::{CamxptCase, CamxptDeviceCounts, CamxptLook, case_shape};
 use event_rules::Refusal;
 use std::alloc::Global;
+use xpt_core::State;
+use xpt_state::Xpt;
 
 /// Whether the lane's adapter has something to send: `OK` or `NONE`. A lane that isn't there has nothing.
 #[unsafe(no_mangle)]
@@ -49,7 +50,7 @@ pub extern "C" fn camxpt_raw_case_at(
     let Some(port) = handle.take(alloc) else {
         return E_CLOSED;
     };
-    let code = match port.nth_case(number) {
+    let code = match port.xpt().nth_case(number) {
         Some(found) => {
             *case = case_shape(found, port.user(found.ccb));
             OK
@@ -77,8 +78,8 @@ pub extern "C" fn camxpt_raw_look(alloc: Global, handle: &mut CamXpt, look: &mut
         in_flight: seen.in_flight,
         cases: seen.cases,
         waiting: seen.waiting,
-        stays: port.stay_count(),
-        alive: port.alive(),
+        stays: port.xpt().state().devices().stay_count(),
+        alive: port.xpt().state().alive(),
         heads: seen.heads,
     };
     handle.put(port);
@@ -95,20 +96,48 @@ pub extern "C" fn camxpt_raw_device_state(
 ) -> i32
     ensures same { handle.new.body.kept ≡ handle.old.body.kept }
     ensures state { MatchOption handle.old.body.kept ((result ≡ E_CLOSED) × (counts.new ≡ counts.old)) (λ p.
-        MatchOption (device_at p.xpt.config p.xpt.events device)
+        MatchOption (counts_at p.xpt.config p.xpt.events device)
         ((result ≡ code_of NoDevice) × (counts.new ≡ counts.old))
-        (λ t. (result ≡ OK) × (counts.new ≡ device_counts_of t))) }
+        (λ found. (result ≡ OK) × (counts.new ≡ found))) }
 {
     let Some(port) = handle.take(alloc) else {
         return E_CLOSED;
     };
-    let code = match port.device(device) {
-        Some(tally) => {
-            *counts = device_counts_shape(tally);
+    let code = match counts_at(port.xpt(), device) {
+        Some(found) => {
+            *counts = found;
             OK
         }
         None => code_of(Refusal::NoDevice),
     };
     handle.put(port);
     code
+}
+
+// The counts of a device, if there is one of this number.
+fn counts_at(xpt: &Xpt, device: u32) -> Option<CamxptDeviceCounts>
+    ensures { result ≡ counts_at xpt.now.config xpt.now.events device }
+{
+    if (device as usize) < xpt.config().devices().len() {
+        Some(device_counts(xpt.state(), device))
+    } else {
+        None
+    }
+}
+
+fn device_counts(state: &State, device: u32) -> CamxptDeviceCounts
+    requires { device < length state.now.config.devices }
+    ensures { result ≡ device_counts state.now.config state.now.events device }
+{
+    let _events = state.events();
+    let queue = state.devices().queue(device);
+    CamxptDeviceCounts {
+        queued: queue.queued() as u32,
+        requeued: queue.requeued() as u32,
+        in_flight: queue.in_flight(),
+        openings: queue.openings(),
+        next_openings: queue.next_openings(),
+        callers: queue.callers(),
+        errors: queue.errors(),
+    }
 }

@@ -11,7 +11,6 @@ ghost use Rattle.camxpt_c.specs.declared.codes.TheConstants.{OK, E_MEMORY, E_WIN
 
 use crate::codes::{E_LIMIT, E_MEMORY, E_WINDOW, NONE, OK, note_code};
 use crate::record_shapes::CamxptWindow;
-use crate::recording::bytes_of;
 use recorder::Recorder;
 use recording_file::Span;
 use request_notes::NoteFault;
@@ -204,7 +203,7 @@ fn text_of(alloc: Global, window: &CutWindow) -> Result<Vec<u8>, AllocError>
     ensures { IfOk result (λ text. IsTextOf window.now text.items) }
 {
     match &window.recording {
-        Some(recording) => bytes_of(alloc, recording),
+        Some(recording) => recording_bytes(alloc, recording),
         None => Ok(Vec::new(alloc)),
     }
 }

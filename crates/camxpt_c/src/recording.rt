@@ -1,8 +1,7 @@
 //! A recording of what C hands in. There is no transport in it.
 
-ghost use Rattle.std.specs.Prelude.{ℕ, List, ◌≡◌, ◌≢◌, ◌≤◌, [], false, None, Some, length, OnOk, IfOk, IfErr};
+ghost use Rattle.std.specs.Prelude.{ℕ, List, ◌≡◌, ◌≢◌, ◌≤◌, [], None, Some, length, OnOk, IfOk, IfErr};
 ghost use Rattle.cam_types.specs.Topology.{config_fault};
-ghost use Rattle.cam_types.specs.Watched.{device_of, has_failed};
 ghost use Rattle.recording_file.specs.declared.limits.TheConstants.{MAX_RECORDED_ROUNDS, MAX_REQUESTS};
 ghost use Rattle.recording_file.specs.Recordings.{IsRecordingText};
 ghost use Rattle.recording_file.specs.Writing.{recording_text};
@@ -17,12 +16,9 @@ use crate::record_shapes::{CamxptCap, CamxptRequest, CamxptSpan, SECONDS, any_do
 use crate::recording_items::{add_caps, add_requests};
 use crate::shapes::{CamxptAdapter, CamxptDevice, CamxptWeight};
 use crate::tracing::copy_text;
-use cam_types::{Config, Watched};
-use recording_file::{
-    MAX_RECORDED_ROUNDS, MAX_REQUESTS, Recorder, Recording, read_long, write_recording,
-};
-use std::alloc::{AllocError, Global};
-use std::collections::VecDeque;
+use cam_types::Config;
+use recording_file::{MAX_RECORDED_ROUNDS, MAX_REQUESTS, Recorder, Recording, recording_bytes};
+use std::alloc::Global;
 
 /// Writes the recording of these caps and requests to the start of the buffer, and gives its length. If the buffer is too
 /// small, it is left as it is. If a cap or a request can't be one of the recording, its number is given. The recording says
@@ -95,7 +91,7 @@ fn text_of(
     check_sizes(span, rounds, requests.len())?;
     let config = config_of(alloc, weights, links, adapters, devices)?;
     let recording = recording_of(alloc, span, rounds, config, caps, requests)?;
-    match bytes_of(alloc, &recording) {
+    match recording_bytes(alloc, &recording) {
         Ok(text) => Ok(text),
         Err(_) => Err(RecordFault::OutOfMemory),
     }
@@ -175,28 +171,4 @@ fn recording_of(
     add_caps(&mut recorder, caps)?;
     add_requests(alloc, &mut recorder, requests)?;
     Ok(recorder.finish())
-}
-
-/// The bytes that `write_recording` writes of a recording. A queue takes them, of which they are read again.
-pub(crate) fn bytes_of(alloc: Global, recording: &Recording) -> Result<Vec<u8>, AllocError>
-    ensures text { IfOk result (λ text. text.items ≡ recording_text recording.now) }
-    ensures read { OnOk result (IsRecordingText (recording_text recording.now) recording.now) }
-{
-    let bytes: VecDeque<u8> = VecDeque::new(alloc);
-    let mut device = Watched::new(bytes);
-    match write_recording(alloc, recording, &mut device) {
-        Ok(()) => read_again(alloc, &mut device),
-        Err(_) => Err(AllocError),
-    }
-}
-
-// All bytes of a queue.
-fn read_again(alloc: Global, device: &mut Watched<VecDeque<u8>>) -> Result<Vec<u8>, AllocError>
-    requires { has_failed device.old ≡ false }
-    ensures { IfOk result (λ text. text.items ≡ (device_of device.old).items) }
-{
-    match read_long(alloc, device) {
-        Ok(text) => Ok(text),
-        Err(_) => Err(AllocError),
-    }
 }

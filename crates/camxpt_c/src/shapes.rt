@@ -1,10 +1,9 @@
 //! The structs that cross, field for field as in the header.
 
 ghost use Rattle.std.specs.Prelude.{◌≡◌};
-ghost use Rattle.camxpt_c.specs.Shapes.{command_of, device_counts_of, IsDone, IsCase};
+ghost use Rattle.camxpt_c.specs.Shapes.{command_of, IsDone, IsCase};
 
 use crate::codes::class_code;
-use crate::tally::Tally;
 use cam_types::Command;
 use xpt_state::{Case, Done};
 
@@ -132,19 +131,5 @@ pub(crate) fn case_shape(case: Case, user: u64) -> CamxptCase
         ccb: case.ccb,
         class: class_code(case.class),
         user,
-    }
-}
-
-pub(crate) fn device_counts_shape(tally: Tally) -> CamxptDeviceCounts
-    ensures { result ≡ device_counts_of tally }
-{
-    CamxptDeviceCounts {
-        queued: tally.queued,
-        requeued: tally.requeued,
-        in_flight: tally.in_flight,
-        openings: tally.openings,
-        next_openings: tally.next_openings,
-        callers: tally.callers,
-        errors: tally.errors,
     }
 }

@@ -22,7 +22,7 @@ pub fn turn_order(alloc: Global, net: &Net) -> Result<Vec<u32>, AllocError>
     ensures { IfOk result (λ order. IsTurnOrder (instance_of_rows net.now) (live_of_rows net.now) order.items) }
 {
     let mut turns = turns_of(alloc, net)?;
-    turns.sort()?;
+    turns.sort_unstable();
     let order = stays_of(alloc, &turns)?;
     Ok(order)
 }

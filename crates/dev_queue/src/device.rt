@@ -88,6 +88,20 @@ impl DevQueue {
         self.len() == 0
     }
 
+    /// How many CCBs are queued in this round.
+    pub fn queued(&self) -> usize
+        ensures { result ≡ length self.now.waiting }
+    {
+        self.waiting.len()
+    }
+
+    /// How many were requeued for the next round.
+    pub fn requeued(&self) -> usize
+        ensures { result ≡ length self.now.later }
+    {
+        self.later.len()
+    }
+
     /// How many CCBs may wait, for this round and the next.
     pub fn capacity(&self) -> usize
         ensures { result ≡ self.now.capacity }
@@ -114,6 +128,13 @@ impl DevQueue {
         ensures { result ≡ self.now.openings }
     {
         self.openings
+    }
+
+    /// How many may be sent in the next round.
+    pub fn next_openings(&self) -> u32
+        ensures { result ≡ self.now.next_openings }
+    {
+        self.next_openings
     }
 
     /// How many commands were sent in this round.

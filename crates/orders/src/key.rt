@@ -24,7 +24,7 @@ pub fn in_order(alloc: Global, net: &Net, order: Order) -> Result<Vec<u32>, Allo
     ensures { IfOk result (λ stays. AreInOrder order (instance_of_rows net.now) stays.items) }
 {
     let mut keys = keys_of(alloc, net, order)?;
-    keys.sort()?;
+    keys.sort_unstable();
     let stays = stays_of(alloc, &keys)?;
     Ok(stays)
 }

@@ -13,7 +13,7 @@ pub use record_text::WriteFault;
 pub use recorder::Recorder;
 pub use recording::Recording;
 pub use recording_fault::RecordingFault;
-pub use recording_text::write_recording;
+pub use recording_text::{recording_bytes, write_recording};
 pub use request::Request;
 pub use request_error::RequestError;
 pub use room::cell_of;

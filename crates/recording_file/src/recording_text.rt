@@ -40,17 +40,17 @@ pub fn write_recording<W: Write>(
     ensures front { result ≡ Err WriteFault.WriteFailed → AppendsFront (W.contents (device_of writer.old)) (W.contents (device_of writer.new)) (recording_text recording.now) }
     ensures untouched { result ≡ Err WriteFault.OutOfMemory → writer.new ≡ writer.old }
 {
-    let text = recording_text(alloc, recording)?;
+    let text = recording_bytes(alloc, recording)?;
     match write_whole(writer, &text) {
         Ok(()) => Ok(()),
         Err(_) => Err(WriteFault::WriteFailed),
     }
 }
 
-// The text of a recording's records.
-fn recording_text(alloc: Global, recording: &Recording) -> Result<Vec<u8>, AllocError>
-    ensures written { IfOk result (λ t. t.items ≡ recording_text recording.now) }
-    ensures text { OnOk result (IsRecordingText (recording_text recording.now) recording.now) }
+/// The bytes that `write_recording` writes of a recording.
+pub fn recording_bytes(alloc: Global, recording: &Recording) -> Result<Vec<u8>, AllocError>
+    ensures text { IfOk result (λ text. text.items ≡ recording_text recording.now) }
+    ensures read { OnOk result (IsRecordingText (recording_text recording.now) recording.now) }
     ensures recording { OnOk result (IsRecording recording.now) }
 {
     let mut writer = WriterBuilder::new().from_writer(Vec::new(alloc));

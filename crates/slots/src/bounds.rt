@@ -30,8 +30,8 @@ pub fn bounds_of(alloc: Global, spans: &[Span]) -> Result<Bounds, AllocError>
     let begins = begins_of(alloc, spans)?;
     let ends = ends_of(alloc, spans)?;
     Ok(Bounds {
-        begins: sorted(begins)?,
-        ends: sorted(ends)?,
+        begins: sorted(begins),
+        ends: sorted(ends),
     })
 }
 

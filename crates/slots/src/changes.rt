@@ -89,7 +89,7 @@ fn times_of(
     times.extend_from_slice(ends)?;
     times.extend_from_slice(arrivals)?;
     times.extend_from_slice(leaves)?;
-    sorted(times)
+    Ok(sorted(times))
 }
 
 /// The change at a time, by how many have begun to fly and to wait by then, and how many have ended.

@@ -1,18 +1,16 @@
 //! Times in their order, and how many of them are up to a time.
 
-ghost use Rattle.std.specs.Prelude.{◌≡◌, ◌≤◌, IfOk};
+ghost use Rattle.std.specs.Prelude.{◌≡◌, ◌≤◌};
 ghost use Rattle.std.specs.List.Sorted.{IsPermutation, IsNonDecreasing};
 ghost use Rattle.slots.specs.Bounds.{up_to};
 
-use std::alloc::AllocError;
-
-/// The times in their order. It fails only if there is no memory.
-pub fn sorted(mut times: Vec<u64>) -> Result<Vec<u64>, AllocError>
-    ensures moved { IfOk result (λ sorted. IsPermutation times.items sorted.items) }
-    ensures sorted { IfOk result (λ sorted. IsNonDecreasing sorted.items) }
+/// The times in their order.
+pub fn sorted(mut times: Vec<u64>) -> Vec<u64>
+    ensures moved { IsPermutation times.items result.items }
+    ensures sorted { IsNonDecreasing result.items }
 {
-    times.sort()?;
-    Ok(times)
+    times.sort_unstable();
+    times
 }
 
 /// How many of the times, which are in their order, are up to one.

@@ -43,7 +43,7 @@ fn sorted_slots(alloc: Global, rounds: &[u32]) -> Result<Vec<Slot>, AllocError>
     ensures { IfOk result (λ slots. IsSorting rounds.now slots.items) }
 {
     let mut slots = slots_of(alloc, rounds)?;
-    slots.sort_by_key(|slot| slot.round)?;
+    slots.sort_unstable_by_key(|slot| slot.round);
     Ok(slots)
 }
 

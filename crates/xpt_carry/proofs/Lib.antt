@@ -1,6 +1,8 @@
+pub mod ApartLemmas
 pub mod OrderLemmas
 pub mod ReplayLemmas
 pub mod RowLemmas
+pub mod SettledLemmas
 pub mod EventLemmas
 pub mod IdleLemmas
 pub mod AnewLemmas

@@ -8,7 +8,7 @@ ghost use Rattle.xpt_carry.specs.Carry.{carried, carrying, carry_fault, IsFault}
 use crate::events::events_of;
 use crate::fault::CarryFault;
 use crate::order::unsent_in_order;
-use crate::replay::{opened_with, state_of};
+use crate::taking::opened_with;
 use crate::settled::unsettled;
 use cam_types::Limits;
 use event_rules::Passage;
@@ -37,8 +37,6 @@ pub struct Carried {
 /// Tries begin at 0 again. It isn't carried over which device an adapter sent to longest ago: at one priority the devices
 /// take their first turns by number.
 ///
-/// It takes memory for a second working state, and the time of all events anew.
-///
 /// # Errors
 ///
 /// `InFlight` if a command is in flight. `Undecided` if a CCB waits for a decision. `Refused` if the limits are too narrow,
@@ -52,8 +50,7 @@ pub fn carry(alloc: Global, from: &Xpt, limits: Limits) -> Result<Carried, Carry
         (λ _. carry_fault (rules_of limits) from.now.config from.now.events ≡ None)
         (λ fault. IsFault (carry_fault (rules_of limits) from.now.config from.now.events) fault) }
 {
-    let state = state_of(alloc, from)?;
-    carry_state(alloc, &state, limits)
+    carry_state(alloc, from.state(), limits)
 }
 
 // The same of a transport's working state.
@@ -67,18 +64,11 @@ fn carry_state(alloc: Global, state: &State, limits: Limits) -> Result<Carried, 
     if let Some(fault) = unsettled(state) {
         return Err(fault);
     }
-    let stays = carried_of(alloc, state)?;
+    let stays = unsent_in_order(alloc, state)?;
     let numbers = numbers_of(alloc, &stays)?;
     let events = events_of(alloc, state, &stays)?;
     let xpt = opened_with(alloc, state.config(), limits, &events)?;
     Ok(Carried { xpt, numbers })
-}
-
-// All stays without a send, in the order of the queues.
-fn carried_of(alloc: Global, state: &State) -> Result<Vec<Passage>, AllocError>
-    ensures { IfOk result (λ stays. stays.items ≡ carried state.now.events) }
-{
-    unsent_in_order(alloc, state.records())
 }
 
 // The numbers of the stays' CCBs.

@@ -2,8 +2,6 @@
 
 ghost use Rattle.std.specs.Prelude.{◌≡◌, ◌<◌, [], ◌∷◌, ◌++◌, length, filter_map, option_to_list, IfOk, OnOk};
 ghost use Rattle.cam_types.specs.Questions.{device_openings, devices};
-ghost use Rattle.event_rules.specs.Counts.{last};
-ghost use Rattle.event_rules.specs.Event.{is_adjust_of, adjusts_to};
 ghost use Rattle.event_rules.specs.declared.event.Event.TheVariants.{Tick};
 ghost use Rattle.xpt_core.specs.Device.{next_openings};
 ghost use Rattle.xpt_core.specs.Known.{adapters};
@@ -106,14 +104,12 @@ fn adjust_of(state: &State, device: u32) -> Option<Event>
 }
 
 // The device's openings of the next round.
+#[tactic(auto, unfolding(xpt_core::specs::Device::device_state))]
 fn next_openings(state: &State, device: u32) -> u32
     requires { device < length state.now.config.devices }
     ensures { result ≡ next_openings state.now.config state.now.events device }
 {
-    match last_adjust(state.events(), device) {
-        Some(event) => adjusts_to(&event),
-        None => configured_openings(state.config(), device),
-    }
+    state.devices().queue(device).next_openings()
 }
 
 fn configured_openings(config: &Config, device: u32) -> u32
@@ -123,31 +119,6 @@ fn configured_openings(config: &Config, device: u32) -> u32
     match config.devices().get(device as usize) {
         Some(device) => device.openings,
         None => 0,
-    }
-}
-
-fn last_adjust(events: &[Event], device: u32) -> Option<Event>
-    ensures { result ≡ last (is_adjust_of device) events.now }
-{
-    events
-        .iter()
-        .rev()
-        .copied()
-        .find(|event| is_adjust_of(device, event))
-}
-
-fn is_adjust_of(number: u32, event: &Event) -> bool
-    ensures { result ≡ is_adjust_of number event.now }
-{
-    matches!(*event, Event::Adjust { device, .. } if device == number)
-}
-
-fn adjusts_to(event: &Event) -> u32
-    ensures { result ≡ adjusts_to event.now }
-{
-    match *event {
-        Event::Adjust { openings, .. } => openings,
-        _ => 0,
     }
 }
 

@@ -13,6 +13,6 @@ mod events;
 mod fault;
 mod laws;
 mod order;
-mod replay;
+mod taking;
 mod settled;
 mod submits;

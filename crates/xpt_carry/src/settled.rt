@@ -21,10 +21,8 @@ pub(crate) fn unsettled(state: &State) -> Option<CarryFault>
 }
 
 // Whether a CCB waits for a decision on its error.
-#[tactic(auto, unfolding(crate::specs::Carry::has_case))]
 fn has_case(state: &State) -> bool
     ensures { result ≡ has_case state.now.events }
 {
-    let count = state.devices().commands();
-    (0..count).any(|ccb| state.is_recovering(ccb))
+    state.case_count() != 0
 }

@@ -12,9 +12,7 @@ use Rattle.event_rules.proofs.PushLaws.{not_both}
 use Rattle.event_rules.proofs.ListFacts.{count_by-kept, count_by-dropped, filter_map-push, filter-same, filter-both, filter-all, All-filter_map-prefixed}
 use Rattle.event_rules.proofs.StateLaws.{is_recovering-push}
 use Rattle.event_rules.proofs.CcbLaws.{event-induction}
-use Rattle.event_rules.proofs.TotalLaws.{commands-stays}
-use Rattle.event_rules.proofs.LimitLemmas.{stays-legal}
-use Rattle.event_rules.proofs.StandLemmas.{AreStates, states-legal, asks-send, asks-done, asks-requeue, asks-finish, flying-states}
+use Rattle.event_rules.proofs.StandLemmas.{AreStates, states-legal, asks-send, asks-done, flying-states}
 use Rattle.event_rules.proofs.FirstLemmas.{first-legal, stands}
 use Rattle.xpt_core.proofs.CaseLists.{lacks-times, kept-all}
 use Rattle.xpt_core.specs.Cases.{Failure, failure_of, failures, is_undecided, failed_ccb, cases, times, other_cases, decided}

@@ -1,5 +1,5 @@
 -- what the parts of a transport's CCBs say of its events
-use Rattle.std.proofs.Common.{◌≡◌, ℕ, ◌<◌, ◌≤◌, Bool, true, false, cond, List, [], ◌∷◌, ◌++◌, length, get_or, refl, sym, ap, subst, ◌∙◌, arith, Option, Some, None, is_some, inl, inr, not, ◌&&◌, nat_lt, nat_le, count_by, option_and_then, slice_get, IfSome, All, IsTrue, vec_len, vec_capacity}
+use Rattle.std.proofs.Common.{◌≡◌, ℕ, zero, suc, ◌<◌, ◌≤◌, Bool, true, false, cond, List, [], ◌∷◌, ◌++◌, length, get_or, refl, sym, ap, subst, ◌∙◌, arith, Option, Some, None, is_some, inl, inr, not, ◌&&◌, nat_lt, nat_le, count_by, option_and_then, slice_get, IfSome, All, IsTrue, vec_len, vec_capacity}
 use Rattle.std.specs.List.{list_any}
 use Rattle.std.specs.Option.{option_map, option_map_or}
 use Rattle.std.proofs.lemmas.Bool.{cases_lt, and_parts, ltb-true, lt-ltb}
@@ -118,10 +118,11 @@ length_cases es h =
     (All-from_get_or (λ n. n < commands es) (cases es) 0 (λ i lt. ltb-true _ _ (recovering_held es (get_or (cases es) i 0) (h.states.placed (get_or (cases es) i 0)) (case_recovers es i 0 lt)).0))
     ∙ sum_by-same (λ n. times n (cases es)) (λ n. cond {A = ℕ} (is_recovering es n) 1 0) (ccbs es) (count_cases es)
 
--- the first of the cases
-pub first_recovers : (es : List Event) (ks : List ℕ) → ((i d : ℕ) → i < length ks → is_recovering es (get_or ks i d) ≡ true) → IfSome (slice_get ks 0) (λ n. IsTrue (is_recovering es n))
-first_recovers es [] h = tt
-first_recovers es (k ∷ ks) h = h 0 0 (omega arith)
+-- each of the cases
+pub each_recovers : (es : List Event) (ks : List ℕ) (i : ℕ) → ((i d : ℕ) → i < length ks → is_recovering es (get_or ks i d) ≡ true) → IfSome (slice_get ks i) (λ n. IsTrue (is_recovering es n))
+each_recovers es [] i h = tt
+each_recovers es (k ∷ ks) zero h = h 0 0 (omega arith)
+each_recovers es (k ∷ ks) (suc i) h = each_recovers es ks i (λ j d lt. h (suc j) d (omega arith))
 
 -- what a legal submit finds
 record FindsRoom (rules : Rules) (es : List Event) : Type 0 where
@@ -251,11 +252,11 @@ module _ (q : Transport) (b : Ccbs) (is : IsCcbs q b) (t : Transport) (same : q 
   pub cases_in : length b.cases.items ≡ count_by (is_recovering t.events) (ccbs t.events)
   cases_in = ap length is.cases ∙ length_cases q.events (settled_of q b is) ∙ ap (λ (x : Transport). count_by (is_recovering x.events) (ccbs x.events)) same
 
-  pub first_in : slice_get b.cases.items 0 ≡ slice_get (cases t.events) 0
-  first_in = ap (λ ks. slice_get ks 0) is.cases ∙ ap (λ (x : Transport). slice_get (cases x.events) 0) same
+  pub case_in : (i : ℕ) → slice_get b.cases.items i ≡ slice_get (cases t.events) i
+  case_in i = ap (λ ks. slice_get ks i) is.cases ∙ ap (λ (x : Transport). slice_get (cases x.events) i) same
 
-  pub next_recovers : (o : Option ℕ) → o ≡ slice_get b.cases.items 0 → IfSome o (λ n. IsTrue (is_recovering t.events n))
-  next_recovers o at = subst (λ k. IfSome k (λ n. IsTrue (is_recovering t.events n))) (sym (at ∙ first_in)) (first_recovers t.events (cases t.events) (case_recovers t.events))
+  pub nth_recovers : (i : ℕ) (o : Option ℕ) → o ≡ slice_get b.cases.items i → IfSome o (λ n. IsTrue (is_recovering t.events n))
+  nth_recovers i o at = subst (λ k. IfSome k (λ n. IsTrue (is_recovering t.events n))) (sym (at ∙ case_in i)) (each_recovers t.events (cases t.events) i (case_recovers t.events))
 
   -- what the event finds
   module _ (e : Event) (legal : is_legal_event t.rules t.config (t.events, e) ≡ true) where

@@ -19,7 +19,7 @@ use Rattle.xpt_core.specs.Laws.{last_failure, is_for_room}
 use Rattle.xpt_core.proofs.RowLaws.{submission-push}
 use Rattle.xpt_core.proofs.CaseLists.{split-at}
 use Rattle.xpt_core.proofs.CaseLaws.{failures-push, place-failure_of, new_case-same, new_case-none, cases-push, concerns-same, count_cases, case_recovers}
-use Rattle.xpt_core.proofs.CcbLemmas.{length_cases, first_recovers}
+use Rattle.xpt_core.proofs.CcbLemmas.{length_cases, each_recovers}
 use Rattle.xpt_core.proofs.PlaceLaws.{settled-legal}
 
 -- where none counts, none passes
@@ -35,7 +35,7 @@ any-none p (x ∷ xs) none = any_cases (p x) (list_any p xs) (count_by p xs) (sy
 first_of : (es : List Event) (ks : List ℕ) → cases es ≡ ks → length (cases es) ≡ count_by (is_recovering es) (ccbs es) → MatchOption (slice_get ks 0) (list_any (is_recovering es) (ccbs es) ≡ false) (λ ccb. IsTrue (is_recovering es ccb))
 first_of es [] is many = any-none (is_recovering es) (ccbs es) (sym many ∙ ap length is)
 first_of es (k ∷ ks) is many =
-    first_recovers es (k ∷ ks) (λ i d lt. subst (λ xs. is_recovering es (get_or xs i d) ≡ true) is (case_recovers es i d (subst (λ xs. i < length xs) (sym is) lt)))
+    each_recovers es (k ∷ ks) 0 (λ i d lt. subst (λ xs. is_recovering es (get_or xs i d) ≡ true) is (case_recovers es i d (subst (λ xs. i < length xs) (sym is) lt)))
 
 pub first_case_recovers : (rules : Rules) (c : Topology) (es : List Event) → is_legal rules c es ≡ true → MatchOption (slice_get (cases es) 0) (list_any (is_recovering es) (ccbs es) ≡ false) (λ ccb. IsTrue (is_recovering es ccb))
 first_case_recovers rules c es legal = first_of es (cases es) refl (length_cases es (settled-legal rules c es legal))

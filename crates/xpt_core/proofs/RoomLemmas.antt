@@ -23,7 +23,7 @@ length-insert : (ys : List Passage) (x : Passage) → length (insert_by queue_ke
 length-insert [] x = omega arith
 length-insert (y ∷ ys) x = length_cases y x ys (insert_by queue_key ys x) (is_less (queue_key x) (queue_key y)) (length-insert ys x)
 
-length-fold : (ys xs : List Passage) → length (fold (insert_by queue_key) ys xs) ≡ length ys + length xs
+pub length-fold : (ys xs : List Passage) → length (fold (insert_by queue_key) ys xs) ≡ length ys + length xs
 length-fold ys [] = omega arith
 length-fold ys (x ∷ xs) = omega (arith, length-fold (insert_by queue_key ys x) xs, length-insert ys x)
 

@@ -1,5 +1,5 @@
 -- what an event makes of the devices' queues
-use Rattle.std.specs.Prelude.{◌≡◌, ℕ, ◌+◌, ◌-◌, ◌^◌, ◌<◌, ◌≤◌, Bool, true, not, ◌&&◌, if◌then◌else◌, List, [], ◌∷◌, ◌++◌, length, map, drop, Some, slice_get, slice_set, All}
+use Rattle.std.specs.Prelude.{◌≡◌, ℕ, ◌+◌, ◌-◌, ◌^◌, ◌<◌, ◌≤◌, Bool, true, not, ◌&&◌, if◌then◌else◌, List, [], ◌∷◌, ◌++◌, length, map, drop, Some, slice_get, All}
 use Rattle.std.specs.Option.{option_map_or}
 use Rattle.xpt_core.specs.Places.{at_place, HasAt}
 use Rattle.xpt_core.specs.Words.{MAX_PRIORITY, Waiting, is_erring, Event, Submit, Send, Done, Requeue, Finish, FreezeDev, ReleaseDev, Adjust, Tick, Submission}

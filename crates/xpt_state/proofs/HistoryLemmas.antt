@@ -1,8 +1,7 @@
 -- a transport's events one by one into a history
-use Rattle.std.proofs.Common.{◌≡◌, ℕ, ◌+◌, ◌<◌, ◌≤◌, true, List, [], ◌∷◌, ◌++◌, length, take, get_or, Option, Some, None, Result, Ok, Err, refl, sym, ap, subst, ◌∙◌, MatchOption, MatchResult, OnOk, IsOk, IsTrue, slice_index_or}
+use Rattle.std.proofs.Common.{◌≡◌, ℕ, ◌+◌, ◌<◌, ◌≤◌, true, List, [], ◌∷◌, ◌++◌, length, take, get_or, Option, Some, None, Result, Ok, Err, refl, sym, ap, ◌∙◌, MatchOption, IsOk, slice_index_or}
 use Rattle.std.proofs.lemmas.List.{take_more, take_all}
 use Rattle.xpt_state.specs.Words.{Topology, Event, Past, history_rules, is_legal, is_legal_event, Refusal, PushFault, Refused}
-use Rattle.event_rules.proofs.LawLemmas.{legal-push}
 use Rattle.event_rules.proofs.LimitLemmas.{legal-at}
 
 -- what isn't refused is pushed

@@ -1,11 +1,10 @@
 -- the adapter of a lane, and the send whose turn it is there
-use Rattle.std.proofs.Common.{◌≡◌, ℕ, zero, suc, ◌<◌, ◌≤◌, Bool, true, false, cond, List, [], ◌∷◌, ◌++◌, length, Option, Some, None, refl, sym, ap, slice_get, arith, ◌∙◌, ◌==◌, ◌&&◌, nat_le, is_some, count_by}
+use Rattle.std.proofs.Common.{◌≡◌, ℕ, ◌<◌, ◌≤◌, Bool, true, false, List, length, Option, Some, None, refl, sym, ap, arith, ◌∙◌, ◌==◌, ◌&&◌, nat_le, is_some}
 use Rattle.std.specs.List.{list_any}
-use Rattle.std.specs.Option.{option_map, option_or}
-use Rattle.std.proofs.lemmas.Bool.{and_left, leb-false, le-ltb}
+use Rattle.std.specs.Option.{option_map}
+use Rattle.std.proofs.lemmas.Bool.{and_left, le-ltb}
 use Rattle.std.proofs.lemmas.Option.{slice_get_past}
-use Rattle.xpt_state.specs.Words.{prefixed_after, first_answer, Topology, IsConfig, lane_fault, TooMany, NoAdapter, MAX_LANES, adapter_freezes, names_lane, lane_adapter, devices, adapter_has_opening, link_has_opening, head, may_send, next, Event, Send, Passage, HistoryFull, next_of, Next, Transport, refused}
-use Rattle.cam_types.proofs.ConfigLemmas.{lane_items}
+use Rattle.xpt_state.specs.Words.{Topology, IsConfig, adapter_freezes, names_lane, lane_adapter, devices, adapter_has_opening, link_has_opening, head, may_send, next, Event, Send, Passage, HistoryFull, next_of, Next, Transport, refused}
 use Rattle.xpt_state.specs.Idle.{takes_more}
 use Rattle.xpt_state.specs.Sends.{lane_refusal}
 use Rattle.xpt_state.proofs.IdleLemmas.{is_some-head, is_some-next_head}

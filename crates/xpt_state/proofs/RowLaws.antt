@@ -1,5 +1,5 @@
 -- commands and completions are what the CCB's row says
-use Rattle.std.proofs.Common.{◌≡◌, ℕ, Bool, true, false, cond, List, [], ◌∷◌, Option, Some, None, refl, sym, ap, ◌∙◌, slice_get, ◌<◌, get_or, ◌==◌, ◌&&◌, not, nat_lt, option_and_then, IfSome, IsTrue, option_map}
+use Rattle.std.proofs.Common.{◌≡◌, ℕ, Bool, true, false, cond, List, Option, Some, None, refl, sym, ap, ◌∙◌, slice_get, ◌<◌, get_or, ◌==◌, ◌&&◌, not, nat_lt, option_and_then, IfSome, IsTrue, option_map}
 use Rattle.std.proofs.lemmas.Bool.{and_parts, eqb-true, ltb-true}
 use Rattle.std.proofs.lemmas.Option.{slice_get-get_or}
 use Rattle.xpt_state.specs.Words.{Topology, Command, Outcome, status_of, is_some_and, submission, submissions, commands, is_in_flight, is_recovering, next, Event, Send, Done, Passage, Submission, last_class, is_stay_of, Rules, names_ccb, is_legal, is_legal_event, lane_adapter, Ccb, is_alive, ccb_by, alive_ccb, cases}
@@ -7,7 +7,7 @@ use Rattle.event_rules.proofs.LawLemmas.{allowed-legal_event}
 use Rattle.event_rules.proofs.NextLemmas.{next_stands}
 use Rattle.event_rules.proofs.StandLemmas.{AreStates, states-legal, in_flight_held, recovering_held}
 use Rattle.xpt_state.specs.declared.reply.Reply.TheVariants as replies
-use Rattle.xpt_state.specs.Looks.{case_of, next_case}
+use Rattle.xpt_state.specs.Looks.{case_of, nth_case}
 use Rattle.xpt_state.specs.Replies.{command_of, done_of, reply_of}
 use Rattle.xpt_state.specs.Rows.{command_by, done_by}
 use Rattle.xpt_state.proofs.AttemptLaws.{next_attempt, next_held}
@@ -88,16 +88,16 @@ done_answers_by_row rules c es ccb outcome legal here =
     let row = row_alive es ccb own.0 held.1 own.1 in
     (ccb_by es ccb own.0, row, done_is_by_row es ccb (ccb_by es ccb own.0) outcome row)
 
--- the next case is alive, so that its class is known
-case_cases : (es : List Event) (ks : List ℕ) → IfSome (slice_get ks 0) (λ n. is_alive es n ≡ true) →
-    option_and_then (λ n. case_of n (cond (is_alive es n) (last_class es n) None)) (slice_get ks 0) ≡ option_and_then (λ n. case_of n (last_class es n)) (slice_get ks 0)
-case_cases es [] h = refl
-case_cases es (k ∷ ks) h = rw h refl
+-- a case is alive, so that its class is known
+case_cases : (es : List Event) (o : Option ℕ) → IfSome o (λ n. is_alive es n ≡ true) →
+    option_and_then (λ n. case_of n (cond (is_alive es n) (last_class es n) None)) o ≡ option_and_then (λ n. case_of n (last_class es n)) o
+case_cases es None h = refl
+case_cases es (Some k) h = rw h refl
 
 recovering_alive : (es : List Event) (o : Option ℕ) → AreStates es → IfSome o (λ n. IsTrue (is_recovering es n)) → IfSome o (λ n. is_alive es n ≡ true)
 recovering_alive es None h r = r
 recovering_alive es (Some n) h r = (recovering_held es n (h.placed n) r).1
 
-pub next_case_alive : (rules : Rules) (c : Topology) (es : List Event) → is_legal rules c es ≡ true → IfSome (slice_get (cases es) 0) (λ n. IsTrue (is_recovering es n)) →
-    option_and_then (λ n. case_of n (cond (is_alive es n) (last_class es n) None)) (slice_get (cases es) 0) ≡ next_case es
-next_case_alive rules c es legal recovers = case_cases es (cases es) (recovering_alive es (slice_get (cases es) 0) (states-legal rules c es legal) recovers)
+pub nth_case_alive : (rules : Rules) (c : Topology) (es : List Event) (i : ℕ) → is_legal rules c es ≡ true → IfSome (slice_get (cases es) i) (λ n. IsTrue (is_recovering es n)) →
+    option_and_then (λ n. case_of n (cond (is_alive es n) (last_class es n) None)) (slice_get (cases es) i) ≡ nth_case es i
+nth_case_alive rules c es i legal recovers = case_cases es (slice_get (cases es) i) (recovering_alive es (slice_get (cases es) i) (states-legal rules c es legal) recovers)

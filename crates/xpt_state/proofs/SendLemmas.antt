@@ -1,8 +1,8 @@
 -- a send is legal where it is of its adapter's next stay
-use Rattle.std.proofs.Common.{◌≡◌, ℕ, ◌<◌, true, List, length, get_or, Option, Some, None, refl, sym, ap, ◌∙◌, slice_get, ◌==◌, ◌&&◌}
+use Rattle.std.proofs.Common.{◌≡◌, ℕ, ◌<◌, true, List, length, Option, Some, None, refl, ap, slice_get, ◌==◌, ◌&&◌}
 use Rattle.std.specs.Option.{option_map, option_map_or}
-use Rattle.std.proofs.lemmas.Bool.{and_parts, and_from, eqb-true, eq-eqb, ltb-true, lt-ltb}
-use Rattle.std.proofs.lemmas.Option.{slice_get-get_or, slice_get_within}
+use Rattle.std.proofs.lemmas.Bool.{and_parts, and_from, eqb-true, eq-eqb, lt-ltb}
+use Rattle.std.proofs.lemmas.Option.{slice_get_within}
 use Rattle.xpt_state.specs.Words.{Topology, is_some_and, submission, submissions, commands, next, Event, Send, Passage, Submission, is_stay_of, names_lane, lane_adapter, Rules, names_ccb, is_next, is_legal_event}
 use Rattle.cam_types.proofs.LaneLemmas.{lane_named}
 use Rattle.event_rules.proofs.LawLemmas.{allowed-legal_event}

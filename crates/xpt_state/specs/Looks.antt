@@ -8,10 +8,14 @@ use Rattle.xpt_state.specs.declared.look.Look.{Look}
 abbrev pub case_of : ℕ → Option class.Class → Option Case
 case_of ccb class = option_map (λ known. record { ccb = ccb; class = known }) class
 
--- of the recovering CCBs the one that completed first, with the class of its last result
+-- of the recovering CCBs the one that completed with this many before it, with the class of its last result
+abbrev pub nth_case : List Event → ℕ → Option Case
+nth_case events n =
+    option_and_then (λ ccb. case_of ccb (last_class events ccb)) (slice_get (cases events) n)
+
+-- the one that completed first
 abbrev pub next_case : List Event → Option Case
-next_case events =
-    option_and_then (λ ccb. case_of ccb (last_class events ccb)) (slice_get (cases events) 0)
+next_case events = nth_case events 0
 
 -- the lane's adapter has something to send
 abbrev pub has_head : Topology → List Event → ℕ → Bool

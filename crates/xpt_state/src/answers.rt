@@ -6,7 +6,7 @@ ghost use Rattle.xpt_state.specs.Words.{is_legal, next, head, refused, lane_adap
 ghost use Rattle.event_rules.specs.declared.event.Event.TheVariants as events;
 ghost use Rattle.xpt_state.specs.Calls.{lane_refused};
 ghost use Rattle.xpt_state.specs.Idle.{idle, has_stay_on};
-ghost use Rattle.xpt_state.specs.Looks.{next_case, case_of};
+ghost use Rattle.xpt_state.specs.Looks.{nth_case, case_of};
 ghost use Rattle.xpt_state.specs.Replies.{done_of, next_command};
 
 use crate::command::command_of;
@@ -94,12 +94,12 @@ pub(crate) fn heads(state: &State) -> usize
         .count()
 }
 
-/// Of the CCBs that wait for a decision, the one that completed first.
-pub(crate) fn next_case(state: &State) -> Option<Case>
-    ensures { result ≡ next_case state.now.events }
+/// Of the CCBs that wait for a decision, the one that completed with this many before it.
+pub(crate) fn nth_case(state: &State, number: usize) -> Option<Case>
+    ensures { result ≡ nth_case state.now.events number }
 {
     let _events = state.events();
-    match state.next_case() {
+    match state.nth_case(number) {
         Some(ccb) => case_of(ccb, state.class(ccb)),
         None => None,
     }

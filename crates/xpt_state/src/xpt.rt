@@ -4,7 +4,7 @@ ghost use Rattle.std.specs.Prelude.{◌≡◌, ◌≤◌, [], length, None, IsTr
 ghost use Rattle.event_rules.specs.Legal.{history_rules, is_legal};
 ghost use Rattle.xpt_state.specs.declared.reply.Reply.TheVariants as replies;
 
-use crate::answers::{command, done_of, heads, next_case, next_command};
+use crate::answers::{command, done_of, heads, next_command, nth_case};
 use crate::done::Done;
 use crate::look::{Case, Look};
 use crate::questions::has_head;
@@ -41,7 +41,7 @@ impl Xpt {
     ghost use Rattle.event_rules.specs.Legal.{history_rules, rules_of, is_legal};
     ghost use Rattle.xpt_core.specs.Takes.{refused, with_event, IsTaken, IsRefused};
     ghost use Rattle.xpt_state.specs.Calls.{lane_refused};
-    ghost use Rattle.xpt_state.specs.Looks.{look, has_head, next_case};
+    ghost use Rattle.xpt_state.specs.Looks.{look, has_head, next_case, nth_case};
     ghost use Rattle.xpt_state.specs.Replies.{nothing};
     ghost use Rattle.xpt_state.specs.Steps.{IsStep, IsLaneStep, IsSent};
 
@@ -61,6 +61,13 @@ impl Xpt {
         Ok(Xpt {
             state: State::open(alloc, config, rules)?,
         })
+    }
+
+    /// The working state: the queues of devices and adapters, the CCBs and the stays, to look at.
+    pub fn state(&self) -> &State
+        ensures { result.now ≡ self.now }
+    {
+        &self.state
     }
 
     /// The configuration.
@@ -308,7 +315,15 @@ impl Xpt {
     pub fn next_case(&self) -> Option<Case>
         ensures { result ≡ next_case self.now.events }
     {
-        next_case(&self.state)
+        nth_case(&self.state, 0)
+    }
+
+    /// Of the CCBs that wait for a decision, the one that completed with this many before it, and its class. None if no
+    /// more wait.
+    pub fn nth_case(&self, number: usize) -> Option<Case>
+        ensures { result ≡ nth_case self.now.events number }
+    {
+        nth_case(&self.state, number)
     }
 
     /// What there is to see, all in counts. It changes nothing.

@@ -1,5 +1,7 @@
 //! What there is to ask of a transport's CCBs.
 
+ghost use Rattle.std.specs.Prelude.{◌≡◌, slice_get};
+
 use crate::ccbs::ccb::Ccb;
 use crate::state::State;
 use sense_class::Class;
@@ -90,11 +92,17 @@ impl State {
         self.ccbs.cases.len() as u32
     }
 
-    /// Of the CCBs that wait for a decision, the one that completed first.
-    pub fn next_case(&self) -> Option<u32>
-        ensures same { result ≡ slice_get (cases self.now.events) 0 }
+    /// Of the CCBs that wait for a decision, the one that completed with this many before it.
+    pub fn nth_case(&self, number: usize) -> Option<u32>
+        ensures same { result ≡ slice_get (cases self.now.events) number }
         ensures recovering { IfSome result (λ ccb. IsTrue (is_recovering self.now.events ccb)) }
     {
-        self.ccbs.cases.first().copied()
+        case_at(&self.ccbs.cases, number)
     }
+}
+
+fn case_at(cases: &[u32], number: usize) -> Option<u32>
+    ensures { result ≡ slice_get cases.now number }
+{
+    cases.get(number).copied()
 }

@@ -85,8 +85,8 @@ impl Devices {
         self.submissions.get(ccb as usize).copied()
     }
 
-    // The device's queue.
-    fn queue(&self, device: u32) -> &DevQueue
+    /// The device's queue.
+    pub fn queue(&self, device: u32) -> &DevQueue
         requires { device < length self.now.config.devices }
         ensures { result.now ≡ device_state self.now.config self.now.rules.stays self.now.events device }
     {

@@ -1,5 +1,5 @@
 use Rattle.std.proofs.Common.{◌≡◌, Option, Some, None, ap, sym, ◌∙◌, option_copied}
-use Rattle.xpt_state.specs.Words.{alive_ccb, Ccb, Transport}
+use Rattle.xpt_state.specs.Words.{Ccb}
 use Rattle.xpt_state.specs.Rows.{done_by}
 use Rattle.xpt_state.proofs.XptLemmas.{done_row}
 use Rattle.xpt_state.proofs.answers.done_of.Goals as goal

@@ -1,5 +1,5 @@
 use Rattle.std.proofs.Common.{length, ap, sym, subst, ◌<◌, ◌∙◌, option_map}
-use Rattle.xpt_state.specs.Words.{Topology, IsConfig, next, lane_adapter, next_of, Transport}
+use Rattle.xpt_state.specs.Words.{next, next_of, Transport}
 use Rattle.xpt_state.proofs.NextLemmas.{free_lane_within, turn_free}
 use Rattle.xpt_state.proofs.answers.next_command.Goals as goal
 

@@ -1,5 +1,4 @@
-use Rattle.std.proofs.Common.{◌≡◌, sym, subst}
-use Rattle.event_rules.specs.Legal.{is_legal_event}
+use Rattle.std.proofs.Common.{sym, subst}
 use Rattle.xpt_core.specs.Transport.{Transport}
 use Rattle.xpt_core.specs.PartsSound.{IsStays}
 use Rattle.xpt_core.proofs.CcbLemmas.{can_update, room_for_case, ccbs-push}

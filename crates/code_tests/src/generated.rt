@@ -1,8 +1,7 @@
 //! Histories of many stays, made by a transport.
 
-use crate::events::attention;
 use cam_event::History;
-use cam_types::{Config, Device, Flags, Limits, Outcome};
+use cam_types::{Config, Device, Flags, Limits, Outcome, SenseBytes};
 use std::alloc::Global;
 use std::test::Fail;
 use xpt_state::{Sent, Xpt};
@@ -10,6 +9,17 @@ use xpt_state::{Sent, Xpt};
 const ADAPTERS: u8 = 4;
 
 const ROUNDS: u32 = 128;
+
+// A unit attention: the device was reset.
+fn attention() -> Outcome {
+    Outcome {
+        status: 0x0c,
+        scsi: 0x02,
+        sense: SenseBytes::first(&[
+            0x70, 0x00, 0x06, 0x00, 0x00, 0x00, 0x00, 0x0a, 0x00, 0x00, 0x00, 0x00, 0x29, 0x00,
+        ]),
+    }
+}
 
 /// What a history is like.
 #[derive(Clone, Copy, Debug)]
@@ -30,15 +40,15 @@ pub(crate) struct Shape {
     pub(crate) frozen: u32,
 }
 
-/// Numbers that look like chance.
+// Numbers that look like chance.
 #[derive(Drop)]
-pub(crate) struct Dice {
-    pub(crate) seed: u32,
+struct Dice {
+    seed: u32,
 }
 
 impl Dice {
-    /// A number below `sides`, and 0 where that is 0.
-    pub(crate) fn below(&mut self, sides: u32) -> u32 {
+    // A number below `sides`, and 0 where that is 0.
+    fn below(&mut self, sides: u32) -> u32 {
         self.seed = self
             .seed
             .wrapping_mul(1_664_525)

@@ -1,12 +1,39 @@
 //! A script that is made of values, and has a link.
 
-use crate::events::{PLAIN, device, submit};
 use crate::scripts::live;
-use cam_types::{Adapter, Config, Limits, Outcome, standard_weights};
+use cam_types::{Adapter, Config, Device, Flags, Limits, Outcome, standard_weights};
+use event_rules::Event;
 use sim_worker::{Ending, sim_run};
 use std::alloc::Global;
 use std::test::Fail;
 use trace_file::{Script, Step};
+
+// Neither flag.
+const PLAIN: Flags = Flags {
+    qfreeze: false,
+    qfrzdis: false,
+};
+
+// A device of the adapter, with that target and lun 0.
+fn device(bus: u8, target: u16, openings: u32) -> Device {
+    Device {
+        bus,
+        target,
+        lun: 0,
+        openings,
+    }
+}
+
+// A submit by driver 0.
+fn submit(device: u32, priority: u32, retries: u32, flags: Flags) -> Event {
+    Event::Submit {
+        driver: 0,
+        device,
+        priority,
+        retries,
+        flags,
+    }
+}
 
 // Two adapters of one opening on a link of one opening, each with a device and a lane.
 fn narrow(alloc: Global) -> Result<Config, Fail> {

@@ -1,8 +1,4 @@
-//! Texts of traces, and of a report.
-
-/// One command, sent in the round of its submit.
-pub(crate) const ONE_COMMAND: &str =
-    "camtrace1,a,b,c,d,e,f,g\nsim,1,,,,,,\ndev,0,1,0,1,,,\nlane,0,,,,,,\nsubmit,0,0,1152,4,none,,\nsend,0,0,,,,,\ndone,0,01,00,,,,\n";
+//! Texts of traces.
 
 /// Two devices, of which one is frozen for three rounds.
 pub(crate) const FROZEN: &str =
@@ -15,7 +11,3 @@ pub(crate) const TWO_ADAPTERS: &str =
 /// Two adapters, of which the second alone has commands: those of the first trace.
 pub(crate) const SECOND_ADAPTER: &str =
     "camtrace1,a,b,c,d,e,f,g\nsim,1,,,,,,\nsim,1,,,,,,\ndev,0,1,0,1,,,\ndev,1,1,0,1,,,\ndev,1,2,0,1,,,\nlane,0,,,,,,\nlane,1,,,,,,\nsubmit,0,1,896,4,none,,\nsubmit,0,2,1152,4,none,,\nsend,1,0,,,,,\ndone,0,01,00,,,,\ntick,,,,,,,\nfreeze,2,1,,,,,\ntick,,,,,,,\ntick,,,,,,,\ntick,,,,,,,\nrelease,2,1,,,,,\nsend,1,1,,,,,\ndone,1,01,00,,,,\n";
-
-/// A report on the trace with two devices.
-pub(crate) const REPORT: &str =
-    "camaudit 1\ncommands 2\nstays 2\nrounds 5\nlive 4\nbest 2\nexcess 2\nstay 0 0 1 1 2 2\nstay 1 0 1 5 1 1\nprice sim 0 1 3\nend\n";

@@ -8,8 +8,8 @@ ghost use Rattle.xpt_carry.specs.Carry.{carried, carrying, carry_fault, IsFault}
 use crate::events::events_of;
 use crate::fault::CarryFault;
 use crate::order::unsent_in_order;
-use crate::taking::opened_with;
 use crate::settled::unsettled;
+use crate::taking::opened_with;
 use cam_types::Limits;
 use event_rules::Passage;
 use std::alloc::{AllocError, Global};

@@ -13,6 +13,6 @@ mod events;
 mod fault;
 mod laws;
 mod order;
-mod taking;
 mod settled;
 mod submits;
+mod taking;

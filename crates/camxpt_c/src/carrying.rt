@@ -1,10 +1,11 @@
 //! Carries what waits over to a fresh transport.
 
 ghost use Rattle.std.specs.Prelude.{◌≡◌, ◌⊎◌, None, Some, length, map, OnOk, IfOk, IfErr};
+ghost use Rattle.event_rules.specs.Counts.{commands};
 ghost use Rattle.event_rules.specs.Legal.{rules_of};
 ghost use Rattle.xpt_carry.specs.Carry.{carry_fault};
 ghost use Rattle.camxpt_c.specs.Attached.{user_of};
-ghost use Rattle.camxpt_c.specs.Carries.{carry_code, gone_on, old_numbers, port_gone_on, IsCarry, IsCarryFrom, IsUncarried};
+ghost use Rattle.camxpt_c.specs.Carries.{carry_code, old_numbers, port_gone_on, IsCarry, IsCarryFrom, IsUncarried};
 ghost use Rattle.camxpt_c.specs.Configs.{bounds_of};
 ghost use Rattle.camxpt_c.specs.Tracing.{IsCopy};
 ghost use Rattle.camxpt_c.specs.declared.codes.TheConstants.{OK, E_SPACE, E_MEMORY};
@@ -87,7 +88,7 @@ fn fresh(alloc: Global, port: &Port, limits: Limits) -> Result<Made, i32>
     ensures err { IfErr result (λ code. IsUncarried (carry_fault (rules_of limits) port.now.xpt.config port.now.xpt.events) code) }
 {
     match carry(alloc, port.xpt(), limits) {
-        Ok(carried) => match with_users(alloc, port, limits, carried) {
+        Ok(carried) => match with_users(alloc, port, carried) {
             Ok(made) => Ok(made),
             Err(_) => Err(E_MEMORY),
         },
@@ -96,35 +97,28 @@ fn fresh(alloc: Global, port: &Port, limits: Limits) -> Result<Made, i32>
 }
 
 // What was carried over from the port's transport, with the pointers that its CCBs had there.
-fn with_users(
-    alloc: Global,
-    from: &Port,
-    limits: Limits,
-    carried: Carried,
-) -> Result<Made, AllocError>
-    requires xpt { carried.xpt ≡ gone_on from.now.xpt limits }
-    requires numbers { carried.numbers.items ≡ old_numbers from.now.xpt }
-    ensures port { IfOk result (λ made. made.port.value ≡ port_gone_on from.now limits) }
+fn with_users(alloc: Global, from: &Port, carried: Carried) -> Result<Made, AllocError>
+    requires { length carried.numbers.items ≡ commands carried.xpt.events }
+    ensures port { IfOk result (λ made. made.port.value ≡ record { xpt = carried.xpt; users = map (user_of from.now) carried.numbers.items }) }
     ensures numbers { IfOk result (λ made. made.numbers.items ≡ carried.numbers.items) }
 {
     let Carried { xpt, numbers } = carried;
-    let mut port = Port::again(alloc, &xpt, limits)?;
-    let _many = port.user_count();
-    hand_on(from, &mut port, &numbers);
+    let users = users_of(alloc, from, &numbers)?;
+    let port = Port::of(alloc, xpt, &users)?;
     Ok(Made {
         port: Box::new(alloc, port)?,
         numbers,
     })
 }
 
-// Gives each CCB the pointer that the CCB of its number among these has in the other port.
-fn hand_on(from: &Port, to: &mut Port, numbers: &[u32])
-    requires { length numbers.now ≡ length to.old.users }
-    ensures { to.new ≡ record to.old { users = map (user_of from.now) numbers.now } }
+// The pointers that the CCBs of these numbers have in the port.
+fn users_of(alloc: Global, from: &Port, numbers: &[u32]) -> Result<Vec<u64>, AllocError>
+    ensures { IfOk result (λ users. users.items ≡ map (user_of from.now) numbers.now) }
 {
-    for (ccb, number) in numbers.iter().enumerate() {
-        to.set_user(ccb, from.user(*number));
-    }
+    numbers
+        .iter()
+        .map(|number| from.user(*number))
+        .collect(alloc)
 }
 
 // The number of why nothing was carried over.

@@ -1,6 +1,6 @@
 //! A transport with what is kept beside it for C.
 
-ghost use Rattle.std.specs.Prelude.{◌≡◌, ◌<◌, IfSome, vec_len, vec_capacity};
+ghost use Rattle.std.specs.Prelude.{◌≡◌, ◌<◌, ◌≤◌, length, IfOk, IfSome, vec_len, vec_capacity};
 ghost use Rattle.event_rules.specs.Event.{submission_of};
 ghost use Rattle.camxpt_c.specs.Attached.{users_after};
 
@@ -30,9 +30,8 @@ impl Model for Port {
 }
 
 impl Port {
-    ghost use Rattle.std.specs.Prelude.{length, slice_set, IfOk};
+    ghost use Rattle.std.specs.Prelude.{length, IfOk};
     ghost use Rattle.event_rules.specs.Counts.{commands};
-    ghost use Rattle.event_rules.specs.Legal.{rules_of};
     ghost use Rattle.camxpt_c.specs.Attached.{user_of, IsPortStep, IsPortLaneStep};
     ghost use Rattle.camxpt_c.specs.Openings.{opened_port};
 
@@ -41,26 +40,17 @@ impl Port {
         ensures { IfOk result (λ p. p ≡ opened_port config limits) }
     {
         let xpt = Xpt::open(alloc, config, limits)?;
-        let stays = xpt.rules().stays() as usize;
-        Ok(Port {
-            xpt,
-            users: Vec::with_capacity(alloc, stays)?,
-        })
+        Port::of(alloc, xpt, &[])
     }
 
-    /// A port of a transport like this one, within these limits, whose events it takes anew without pointers.
-    pub fn again(alloc: Global, xpt: &Xpt, limits: Limits) -> Result<Port, AllocError>
-        requires { xpt.now.rules ≡ rules_of limits }
-        ensures { IfOk result (λ p. p.xpt ≡ xpt.now) }
+    /// A transport with these pointers, one for each of its CCBs, and with memory for those that its limits let come.
+    pub fn of(alloc: Global, xpt: Xpt, users: &[u64]) -> Result<Port, AllocError>
+        requires { length users.now ≡ commands xpt.events }
+        ensures { IfOk result (λ p. p ≡ record { xpt = xpt; users = users.now }) }
     {
-        let mut port = Port::open(alloc, xpt.config().copy(alloc)?, limits)?;
-        for event in xpt.events() {
-            match port.take(*event, 0) {
-                Ok(_) => {}
-                Err(_) => unreachable!(),
-            }
-        }
-        Ok(port)
+        let _events = xpt.events();
+        let users = with_room(alloc, users, xpt.rules().stays() as usize)?;
+        Ok(Port { xpt, users })
     }
 
     /// The transport.
@@ -80,22 +70,6 @@ impl Port {
         }
     }
 
-    /// How many pointers there are: one for each CCB.
-    pub fn user_count(&self) -> usize
-        ensures same { result ≡ length self.now.users }
-        ensures numbered { length self.now.users ≡ commands self.now.xpt.events }
-    {
-        self.users.len()
-    }
-
-    /// Gives a CCB another pointer.
-    pub fn set_user(&mut self, ccb: usize, user: u64)
-        requires { ccb < length self.old.users }
-        ensures { self.new ≡ record self.old { users = slice_set self.old.users ccb user } }
-    {
-        self.users[ccb] = user;
-    }
-
     /// Takes an event of any kind, and a pointer for the CCB if it is a submit.
     pub fn take(&mut self, event: Event, user: u64) -> Result<Reply, Refusal>
         ensures step { IsPortStep self.old event user self.new result }
@@ -112,6 +86,19 @@ impl Port {
     {
         self.xpt.send_next(lane)
     }
+}
+
+// These pointers, with memory for so many in all.
+fn with_room(alloc: Global, users: &[u64], room: usize) -> Result<Vec<u64>, AllocError>
+    requires { length users.now ≤ room }
+    ensures users { IfOk result (λ kept. kept.items ≡ users.now) }
+    ensures room { IfOk result (λ kept. room ≤ vec_capacity kept) }
+{
+    let mut kept = Vec::with_capacity(alloc, room)?;
+    for user in users {
+        kept.push_reserved(*user);
+    }
+    Ok(kept)
 }
 
 // Keeps the pointer of a submit.

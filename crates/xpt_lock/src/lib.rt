@@ -21,6 +21,4 @@ mod replay;
 mod seat;
 mod shared;
 mod sleepers;
-#[cfg(test)]
-mod tests;
 mod wait_event;

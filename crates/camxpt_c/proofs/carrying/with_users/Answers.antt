@@ -1,8 +1,7 @@
-use Rattle.std.proofs.Common.{sym, ◌∙◌}
-use Rattle.camxpt_c.proofs.HandLemmas.{carried_count}
+use Rattle.std.proofs.Common.{◌≡◌, length, map, ap, ◌∙◌, arith}
+use Rattle.std.proofs.lemmas.List.{length-map}
+use Rattle.camxpt_c.specs.Attached.{user_of}
 use Rattle.camxpt_c.proofs.carrying.with_users.Goals as goal
 
-pub hand_on-requires : goal.hand_on-requires
-hand_on-requires c =
-    carried_count c.args.from.now.xpt c.in_ok-port.port.xpt c.args.limits c.deref.result.now (c.deref.ensures.value ∙ c.requires.numbers) (c.in_ok-port.ensures ∙ c.requires.xpt)
-    ∙ sym c.user_count-many.ensures.numbered
+pub of-requires : goal.of-requires
+of-requires c = c.in_ok-users.ensures

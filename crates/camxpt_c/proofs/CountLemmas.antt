@@ -1,5 +1,5 @@
 -- The counts of a device, by its state.
-use Rattle.std.proofs.Common.{◌≡◌, ℕ, ◌+◌, ◌≤◌, List, length, map, ap, ◌∙◌, arith, zero-add}
+use Rattle.std.proofs.Common.{◌≡◌, ℕ, ◌+◌, ◌≤◌, List, [], length, map, ap, ◌∙◌, arith, zero-add}
 use Rattle.std.proofs.lemmas.List.{length-map}
 use Rattle.cam_types.specs.Topology.{Topology}
 use Rattle.event_rules.specs.Stays.{queue}

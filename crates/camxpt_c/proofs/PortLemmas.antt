@@ -1,10 +1,11 @@
--- The parts of a port before any event, and after one more.
-use Rattle.std.proofs.Common.{◌≡◌, ℕ, ◌+◌, ◌<◌, ◌≤◌, true, List, [], ◌∷◌, length, refl, sym, ap, ◌∙◌, arith, Option, Some, None, length-append, option_to_list, IfSome, vec_len, vec_capacity}
+-- The parts of a port, and after one event more.
+use Rattle.std.proofs.Common.{◌≡◌, ℕ, ◌+◌, ◌<◌, ◌≤◌, true, List, [], ◌∷◌, length, refl, sym, ap, ◌∙◌, arith, Option, Some, None, Result, Ok, Err, length-append, option_to_list, IfSome, vec_len, vec_capacity}
 use Rattle.event_rules.specs.Counts.{commands, submissions}
 use Rattle.event_rules.specs.Event.{submission_of}
 use Rattle.event_rules.specs.Legal.{is_legal_event}
 use Rattle.event_rules.specs.declared.event.Event.{Event}
 use Rattle.event_rules.specs.declared.event.Event.TheVariants.{Submit, Send}
+use Rattle.event_rules.specs.declared.refusal.Refusal.{Refusal}
 use Rattle.event_rules.specs.declared.submission.Submission.{Submission}
 use Rattle.event_rules.proofs.LegalLemmas.{legal-none}
 use Rattle.event_rules.proofs.LimitLemmas.{room_submit}
@@ -12,19 +13,15 @@ use Rattle.event_rules.proofs.TotalLaws.{commands-push, commands-stays}
 use Rattle.xpt_core.specs.Takes.{refused, with_event}
 use Rattle.xpt_core.specs.Transport.{Transport}
 use Rattle.xpt_state.specs.Steps.{IsLaneStep}
+use Rattle.xpt_state.specs.declared.reply.Sent.{Sent}
+use Rattle.xpt_state.specs.declared.reply.Sent.TheVariants as sents
 use Rattle.camxpt_c.specs.Attached.{users_after}
 use Rattle.camxpt_c.specs.PortSound.{IsPort}
 use Rattle.camxpt_c.specs.declared.port.Port.TheInside.{Inside}
 
-no_commands : commands [] ≡ 0
+pub no_commands : commands [] ≡ 0
 unfolding submissions
 no_commands = refl
-
-pub open_sound : (i : Inside) → i.xpt.events ≡ [] → i.users.items ≡ [] → i.xpt.rules.stays ≤ vec_capacity i.users → IsPort i
-open_sound i none users room = record {
-  numbered = ap length users ∙ sym no_commands ∙ ap commands (sym none);
-  room = room;
-}
 
 -- one pointer more for a submit
 users-push : (e : Event) (user : ℕ) (us : List ℕ) → length (users_after e user us) ≡ length us + length (option_to_list (submission_of e))
@@ -37,6 +34,19 @@ push_sound i i' is e user made users room = record {
   numbered = rw made (ap length users ∙ users-push e user i.users.items ∙ ap (λ n. n + length (option_to_list (submission_of e))) is.numbered ∙ sym (commands-push i.xpt.events e));
   room = rw (made, room) is.room;
 }
+
+-- a transport to which nothing has happened
+same_sound : (i : Inside) → IsPort i → (new : Transport) → new ≡ i.xpt → IsPort (record i { xpt = new })
+same_sound i is new same = record {
+  numbered = is.numbered ∙ ap (λ (t : Transport). commands t.events) (sym same);
+  room = rw same is.room;
+}
+
+-- one of whose lanes sent a command, was idle or was refused
+pub lane_sound : (i : Inside) → IsPort i → (lane : ℕ) (new : Transport) (r : Result Sent Refusal) → IsLaneStep i.xpt lane new r → IsPort (record i { xpt = new })
+lane_sound i is lane new (Ok (sents.Command command)) h = push_sound i (record i { xpt = new }) is (Send lane command.ccb) 0 h.1.0.1 refl refl
+lane_sound i is lane new (Ok (sents.Idle why)) h = same_sound i is new h.1.1
+lane_sound i is lane new (Err why) h = same_sound i is new h.1
 
 -- a submit finds room for one pointer more
 module _ (i : Inside) (is : IsPort i) where

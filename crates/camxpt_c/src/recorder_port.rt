@@ -12,7 +12,7 @@ ghost use Rattle.camxpt_c.specs.declared.codes.TheConstants.{OK, E_MEMORY, E_WIN
 use crate::codes::{E_LIMIT, E_MEMORY, E_WINDOW, NONE, OK, note_code};
 use crate::record_shapes::CamxptWindow;
 use recorder::Recorder;
-use recording_file::Span;
+use recording_file::{Span, recording_bytes};
 use request_notes::NoteFault;
 use std::alloc::{AllocError, Global};
 use std::marker::Model;

@@ -106,7 +106,7 @@ impl Layers {
             devices.has_in_flight(),
             ccbs.in_flight_count(),
             ccbs.case_count(),
-            ccbs.next_case()
+            ccbs.nth_case(0)
         )
     }
 

@@ -4,7 +4,7 @@ ghost use Rattle.std.specs.Prelude.{◌≡◌};
 ghost use Rattle.blame.specs.Rows.{row_key};
 
 /// How long the stays of one number waited for those of another. A number is that of a driver or of a run level.
-#[derive(Clone, Copy, Debug, PartialEq, Eq)]
+#[derive(Clone, Copy)]
 pub struct BlameRow {
     /// The number of those that waited.
     pub waiting: u32,

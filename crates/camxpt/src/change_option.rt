@@ -3,7 +3,7 @@
 use recording_file::NameKind;
 
 /// An option that asks for more openings.
-#[derive(Clone, Copy, Debug, PartialEq, Eq)]
+#[derive(Clone, Copy, Debug)]
 pub enum ChangeOption {
     /// For a device.
     Device,

@@ -3,7 +3,7 @@
 use std::fmt;
 
 /// What a word of the command line has to be, or what contradicts another one.
-#[derive(Clone, Copy, Debug, PartialEq, Eq)]
+#[derive(Clone, Copy, Debug)]
 pub enum WordFault {
     OneInput,
     Unit,

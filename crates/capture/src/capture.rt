@@ -17,7 +17,7 @@ use std::marker::Model;
 
 /// The started requests of a capture, by arrival, in rounds: round 1 begins when the first of them arrives, and the last round
 /// is the last one in which something was started.
-#[derive(Debug, Drop)]
+#[derive(Drop)]
 pub struct Capture {
     round: Span,
     rounds: u32,

@@ -10,7 +10,7 @@ use thiserror::Error;
 pub const MAX_IN_ROUND: u32 = 65_535;
 
 /// Why there is no recording of a capture.
-#[derive(Clone, Copy, Debug, PartialEq, Eq, Error)]
+#[derive(Clone, Copy, Debug, Error)]
 pub enum CaptureFault {
     /// The request of this number, from 0 on in the order given, has a priority above 1279.
     #[error("request {0}: bad priority")]

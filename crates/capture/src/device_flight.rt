@@ -3,7 +3,7 @@
 use slots::Flight;
 
 /// An attempt of a request that held a slot of a device, whether the request is one of the recording or not.
-#[derive(Clone, Copy, Debug, PartialEq, Eq)]
+#[derive(Clone, Copy)]
 pub struct DeviceFlight {
     /// The number of the device.
     pub device: u32,

@@ -16,7 +16,7 @@ use slots::{Flight, Slots, SlotsFault, Spare, Wait, slots_of, spare_starts};
 use std::alloc::{AllocError, Global};
 
 /// What a device had room for: its slots, and the starts that they had room for in each round.
-#[derive(Debug, Drop)]
+#[derive(Drop)]
 pub struct Room {
     pub slots: Slots,
     pub spare: Spare,

@@ -1,7 +1,7 @@
 //! Requests in time.
 
 /// A request of a capture. Its times are nanoseconds of one clock.
-#[derive(Clone, Copy, Debug, PartialEq, Eq)]
+#[derive(Clone, Copy)]
 pub struct TimedRequest {
     /// When it arrived.
     pub arrival: u64,

@@ -7,7 +7,7 @@ use crate::time_span::TimeSpan;
 use capture::TimedRequest;
 
 /// An attempt of a request, as far as it is known.
-#[derive(Clone, Copy, Debug, PartialEq, Eq)]
+#[derive(Clone, Copy)]
 pub struct Attempt {
     /// When it arrived, and when it was started, put back (a later attempt arrives then) or completed.
     pub request: TimedRequest,

@@ -16,7 +16,7 @@ use slots::{InFlight, SlotsFault, Spare, WindowSlots, flights_in_window, slots_i
 use std::alloc::Global;
 
 /// What a device had room for in a window.
-#[derive(Debug, Drop)]
+#[derive(Drop)]
 pub struct WindowRoom {
     /// Its slots.
     pub slots: WindowSlots,

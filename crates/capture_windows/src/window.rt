@@ -18,14 +18,14 @@ use slots::{InFlight, Known, SlotsFault};
 use std::alloc::{AllocError, Global};
 
 /// What is known of a device when a window begins, and the depth that is given for it, if one is.
-#[derive(Clone, Copy, Debug, PartialEq, Eq)]
+#[derive(Clone, Copy)]
 pub struct KnownDevice {
     pub known: Known,
     pub depth: Option<u32>,
 }
 
 /// What is taken out for a window.
-#[derive(Debug, Drop)]
+#[derive(Drop)]
 pub struct Taken {
     /// The requests that were started in it, as they are known at its end: by arrival, and of one arrival in the order given.
     pub requests: Vec<TimedRequest>,

@@ -7,7 +7,7 @@ use std::alloc::AllocError;
 use thiserror::Error;
 
 /// Why no window is taken.
-#[derive(Clone, Copy, Debug, PartialEq, Eq, Error)]
+#[derive(Clone, Copy, Debug, Error)]
 pub enum WindowFault {
     /// The depth that was given for the first device is below the second number, which were in flight at it at one time.
     #[error("{1} were in flight")]

@@ -18,7 +18,7 @@ use std::marker::Model;
 pub const MAX_WINDOW_ROUNDS: u32 = 65_534;
 
 /// A window that was taken.
-#[derive(Debug, Drop)]
+#[derive(Drop)]
 pub struct Window {
     /// From when to when something was started in it.
     pub span: TimeSpan,
@@ -29,7 +29,7 @@ pub struct Window {
 }
 
 /// How far windows were taken, and what is known of the devices.
-#[derive(Debug, Drop)]
+#[derive(Drop)]
 pub struct Windows {
     from: u64,
     begin: u64,

@@ -11,7 +11,7 @@ use round_net::{MAX_CAP, Net};
 
 /// How many more openings a device, an adapter or a link has in each round. A number is from 1 to `MAX_CAP`, and no more
 /// than `MAX_CAP` openings come of it.
-#[derive(Clone, Copy, Debug, PartialEq, Eq)]
+#[derive(Clone, Copy)]
 pub enum Widening {
     /// So many more, but none where it took nothing.
     More(u32),
@@ -24,7 +24,7 @@ pub enum Widening {
 }
 
 /// A device, an adapter or a link, by its number.
-#[derive(Clone, Copy, Debug, PartialEq, Eq)]
+#[derive(Clone, Copy)]
 pub enum Resource {
     /// The device of that number.
     Device(u32),
@@ -35,7 +35,7 @@ pub enum Resource {
 }
 
 /// More openings for a device, an adapter or a link.
-#[derive(Clone, Copy, Debug, PartialEq, Eq)]
+#[derive(Clone, Copy)]
 pub struct Change {
     /// What has them.
     pub resource: Resource,

@@ -29,14 +29,14 @@ fn what_was_noted_is_recorded_window_by_window(rt: HostRuntime) -> Result<(), Fa
     let mut recorder = Recorder::new(rt.alloc(), Some(ROUND), 20, 8)?;
     assert_eq!(rt; recorder.add_device(b"sda", Some(4)), Ok(true));
     assert_eq!(rt; recorder.add_driver(b"db"), Ok(true));
-    assert_eq!(rt; recorder.note_arrival(7, 0, 0, 512, 10), Ok(()));
-    assert_eq!(rt; recorder.note_arrival(8, 0, 0, 512, 12), Ok(()));
-    assert_eq!(rt; recorder.note_start(7, 25), Ok(()));
-    assert_eq!(rt; recorder.note_start(8, 38), Ok(()));
-    assert_eq!(rt; recorder.note_done(7, 41), Ok(()));
+    assert!(rt; recorder.note_arrival(7, 0, 0, 512, 10).is_ok());
+    assert!(rt; recorder.note_arrival(8, 0, 0, 512, 12).is_ok());
+    assert!(rt; recorder.note_start(7, 25).is_ok());
+    assert!(rt; recorder.note_start(8, 38).is_ok());
+    assert!(rt; recorder.note_done(7, 41).is_ok());
     assert!(rt; !recorder.is_due());
-    assert_eq!(rt; recorder.note_arrival(9, 0, 0, 512, SLACK + 60), Ok(()));
-    assert_eq!(rt; recorder.cancel(9), Ok(()));
+    assert!(rt; recorder.note_arrival(9, 0, 0, 512, SLACK + 60).is_ok());
+    assert!(rt; recorder.cancel(9).is_ok());
     assert!(rt; recorder.is_due());
 
     assert!(rt; recorder.make_window(Ending::Whole).is_ok());
@@ -66,10 +66,8 @@ fn only_what_was_added_is_noted(rt: HostRuntime) -> Result<(), Fail> {
         assert_eq!(rt; recorder.add_driver(b"db"), Ok(true));
     }
     assert_eq!(rt; recorder.add_driver(b"db"), Ok(false));
-    assert_eq!(rt;
-        recorder.note_arrival(1, MAX_DEVICES, 0, 0, 5),
-        Err(NoteFault::NoDevice)
-    );
-    assert_eq!(rt; recorder.note_arrival(1, 31, 255, 0, 5), Ok(()));
+    let beyond = recorder.note_arrival(1, MAX_DEVICES, 0, 0, 5);
+    assert!(rt; matches!(beyond, Err(NoteFault::NoDevice)));
+    assert!(rt; recorder.note_arrival(1, 31, 255, 0, 5).is_ok());
     Ok(())
 }

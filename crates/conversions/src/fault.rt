@@ -8,7 +8,7 @@ use thiserror::Error;
 
 /// What is more than a script may have, in the order in which it is looked for: of a recording all of these, of a history the
 /// last two. Memory may run out before any is known.
-#[derive(Clone, Copy, Debug, PartialEq, Eq, Error)]
+#[derive(Clone, Copy, Debug, Error)]
 pub enum ScriptFault {
     /// A recording has this many rounds.
     #[error("{0} rounds: a script has at most 512")]

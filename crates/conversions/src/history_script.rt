@@ -16,7 +16,7 @@ use std::alloc::Global;
 use trace_file::Script;
 
 /// The script of a history, and what the script can't say of it.
-#[derive(Debug, Drop)]
+#[derive(Drop)]
 pub struct Scripted {
     /// The script.
     pub script: Script,

@@ -1,7 +1,7 @@
 //! Priority rules: by what those that wait go first.
 
 /// By what those that wait go first.
-#[derive(Clone, Copy, Debug, PartialEq, Eq)]
+#[derive(Clone, Copy)]
 pub enum Order {
     /// By arrival, and of those that arrived together by number.
     FirstCome,

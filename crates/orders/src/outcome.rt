@@ -3,7 +3,7 @@
 use round_net::Schedule;
 
 /// What an order as it comes makes of a net.
-#[derive(Debug, Drop)]
+#[derive(Drop)]
 pub struct Ordered {
     /// The round in which each stay is sent, from 1; one more than the net has rounds if it isn't sent within them.
     pub schedule: Schedule,

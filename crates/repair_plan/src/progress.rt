@@ -1,7 +1,7 @@
 //! The progress of a plan.
 
 /// How far a plan is.
-#[derive(Clone, Copy, Debug)]
+#[derive(Clone, Copy)]
 pub struct Done {
     /// How many rounds there are.
     pub rounds: u32,
@@ -16,7 +16,7 @@ pub trait Progress {
 }
 
 /// Ignores the progress.
-#[derive(Clone, Copy, Debug, Drop)]
+#[derive(Clone, Copy, Drop)]
 pub struct NoProgress;
 
 impl Progress for NoProgress {

@@ -4,28 +4,28 @@ ghost use Rattle.std.specs.Prelude.{◌≡◌};
 ghost use Rattle.request_events.specs.States.{start_of};
 
 /// Where a request is: its device and its first sector. A flush has none.
-#[derive(Clone, Copy, Debug, PartialEq, Eq, PartialOrd, Ord)]
+#[derive(Clone, Copy, PartialEq, Eq, PartialOrd, Ord)]
 pub struct Place {
     pub device: u32,
     pub sector: Option<u64>,
 }
 
 /// What a caller says of a request when it arrives, and reads again later.
-#[derive(Clone, Copy, Debug, PartialEq, Eq)]
+#[derive(Clone, Copy)]
 pub struct Tag {
     pub driver: u8,
     pub priority: u32,
 }
 
 /// When a request arrived, and what was said of it then.
-#[derive(Clone, Copy, Debug, PartialEq, Eq)]
+#[derive(Clone, Copy)]
 pub struct Arrival {
     pub time: u64,
     pub tag: Tag,
 }
 
 /// What has become of an attempt.
-#[derive(Clone, Copy, Debug, PartialEq, Eq)]
+#[derive(Clone, Copy)]
 pub enum State {
     /// It waits to be started.
     Waiting,
@@ -52,7 +52,7 @@ impl State {
 }
 
 /// One attempt of a request, from its arrival to its end. One that is put back has a next attempt.
-#[derive(Clone, Copy, Debug, PartialEq, Eq)]
+#[derive(Clone, Copy)]
 pub struct Attempt {
     /// Its number. Attempts that come later have higher ones, and none has that of another.
     pub id: u64,

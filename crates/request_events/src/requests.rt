@@ -14,7 +14,7 @@ use std::collections::BTreeMap;
 use std::marker::Model;
 
 /// What an arrival is of.
-#[derive(Clone, Copy, Debug, PartialEq, Eq)]
+#[derive(Clone, Copy)]
 pub enum Came {
     /// A new attempt, which waits.
     New(u64),
@@ -23,7 +23,7 @@ pub enum Came {
 }
 
 /// What a completion is of.
-#[derive(Clone, Copy, Debug, PartialEq, Eq)]
+#[derive(Clone, Copy)]
 pub enum Ending {
     /// An attempt that was in flight, as it is now.
     Completed(Attempt),

@@ -3,7 +3,7 @@
 use thiserror::Error;
 
 /// Why a note isn't taken. Of several the first is said.
-#[derive(Clone, Copy, Debug, PartialEq, Eq, Error)]
+#[derive(Clone, Copy, Debug, Error)]
 pub enum NoteFault {
     /// There is no device of this number.
     #[error("there is no device of this number")]

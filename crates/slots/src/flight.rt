@@ -1,7 +1,7 @@
 //! Requests that were started, and requests that wait.
 
 /// How a flight ended. Times are nanoseconds.
-#[derive(Clone, Copy, Debug, PartialEq, Eq)]
+#[derive(Clone, Copy)]
 pub enum End {
     /// It was completed then.
     Completed(u64),
@@ -12,14 +12,14 @@ pub enum End {
 }
 
 /// An attempt of a request that was started, and holds a slot from then on. Times are nanoseconds.
-#[derive(Clone, Copy, Debug, PartialEq, Eq)]
+#[derive(Clone, Copy)]
 pub struct Flight {
     pub start: u64,
     pub end: End,
 }
 
 /// A request that waits from its arrival up to before its start. Times are nanoseconds.
-#[derive(Clone, Copy, Debug, PartialEq, Eq)]
+#[derive(Clone, Copy)]
 pub struct Wait {
     pub arrival: u64,
     pub start: u64,

@@ -14,7 +14,7 @@ use std::alloc::Global;
 pub const ENOUGH: u32 = 16;
 
 /// What is found of a device.
-#[derive(Clone, Copy, Debug, PartialEq, Eq)]
+#[derive(Clone, Copy)]
 pub struct Slots {
     /// The slots: the depth that was given, or else the most that were in flight at one time.
     pub slots: u32,

@@ -11,7 +11,7 @@ use crate::spans::spans_held;
 use std::alloc::{AllocError, Global};
 
 /// A flight, and how many were in flight when it was started, itself counted.
-#[derive(Clone, Copy, Debug, PartialEq, Eq)]
+#[derive(Clone, Copy)]
 pub struct NumberedFlight {
     pub flight: Flight,
     pub number: u32,

@@ -7,7 +7,7 @@ use std::alloc::AllocError;
 use thiserror::Error;
 
 /// Why no slots are found.
-#[derive(Clone, Copy, Debug, PartialEq, Eq, Error)]
+#[derive(Clone, Copy, Debug, Error)]
 pub enum SlotsFault {
     /// The depth that was given is below this number, which were in flight at one time.
     #[error("{0} were in flight")]

@@ -8,7 +8,7 @@ use crate::flight::{End, Flight, Wait};
 use std::alloc::{AllocError, Global};
 
 /// From a time up to before another, in nanoseconds. It is empty if the other is no later.
-#[derive(Clone, Copy, Debug, PartialEq, Eq)]
+#[derive(Clone, Copy)]
 pub struct Span {
     pub from: u64,
     pub until: u128,

@@ -12,7 +12,7 @@ use crate::tally::Clock;
 use std::alloc::{AllocError, Global};
 
 /// Spare starts.
-#[derive(Debug, Drop)]
+#[derive(Drop)]
 pub struct Spare {
     /// How many there are in each round, from round 1 on, and 0 for round 0; at most [`MOST_SPARE`](crate::MOST_SPARE) of each.
     pub row: Vec<u32>,

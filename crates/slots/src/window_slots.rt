@@ -13,7 +13,7 @@ use crate::slots_fault::SlotsFault;
 use std::alloc::{AllocError, Global};
 
 /// What is known of a device when a window begins.
-#[derive(Clone, Copy, Debug, PartialEq, Eq)]
+#[derive(Clone, Copy)]
 pub struct Known {
     /// The most that were in flight at one time since the capture began.
     pub in_flight: u32,
@@ -22,7 +22,7 @@ pub struct Known {
 }
 
 /// What is known of a device when a window ends.
-#[derive(Clone, Copy, Debug, PartialEq, Eq)]
+#[derive(Clone, Copy)]
 pub struct WindowSlots {
     /// The slots: the depth that was given, or else the most that were in flight at one time, and at least 1.
     pub slots: u32,

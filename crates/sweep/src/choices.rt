@@ -11,7 +11,7 @@ use crate::setting::{Choice, Place};
 use cam_types::{Config, are_openings};
 
 /// The rule that a choice breaks.
-#[derive(Clone, Copy, Debug, PartialEq, Eq)]
+#[derive(Clone, Copy)]
 pub enum ChoiceFault {
     /// There is no device or adapter of its number.
     NoPlace,
@@ -24,7 +24,7 @@ pub enum ChoiceFault {
 }
 
 /// A choice that is refused.
-#[derive(Clone, Copy, Debug, PartialEq, Eq)]
+#[derive(Clone, Copy)]
 pub struct RefusedChoice {
     /// Its place among the choices, from 0.
     pub at: usize,

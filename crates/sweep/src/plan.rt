@@ -17,7 +17,7 @@ use thiserror::Error;
 pub const MAX_RUNS: usize = 4096;
 
 /// Why there is nothing to run.
-#[derive(Clone, Copy, Debug, PartialEq, Eq, Error)]
+#[derive(Clone, Copy, Debug, Error)]
 pub enum PlanFault {
     /// No seed runs a setting.
     #[error("a sweep has at least 1 seed")]
@@ -39,7 +39,7 @@ impl From<AllocError> for PlanFault {
 }
 
 /// Some settings and a number of seeds: each setting is to be run by each seed from 1 to that number.
-#[derive(Debug, Drop)]
+#[derive(Drop)]
 pub struct SweepPlan {
     settings: Vec<Setting>,
     seeds: u32,

@@ -8,7 +8,7 @@ use crate::spread::spread_of;
 use std::alloc::{AllocError, Global};
 
 /// Three of some numbers, in rising order.
-#[derive(Clone, Copy, Debug, PartialEq, Eq)]
+#[derive(Clone, Copy)]
 pub struct Spread {
     /// The least.
     pub least: u64,
@@ -19,7 +19,7 @@ pub struct Spread {
 }
 
 /// What the waiting of the runs of a setting cost, and how long it was.
-#[derive(Clone, Copy, Debug, PartialEq, Eq)]
+#[derive(Clone, Copy)]
 pub struct Figures {
     /// The weighted rounds that all stays of a run waited.
     pub live: Spread,
@@ -32,7 +32,7 @@ pub struct Figures {
 }
 
 /// What the runs of a setting come to.
-#[derive(Clone, Copy, Debug, PartialEq, Eq)]
+#[derive(Clone, Copy)]
 pub enum Row {
     /// All drained.
     Drained(Figures),

@@ -10,7 +10,7 @@ use std::alloc::{AllocError, Global};
 use trace_file::Script;
 
 /// What the waiting of a run cost, and how long it was.
-#[derive(Clone, Copy, Debug, PartialEq, Eq)]
+#[derive(Clone, Copy)]
 pub struct Numbers {
     /// The weighted rounds that all stays waited.
     pub live: u64,
@@ -21,7 +21,7 @@ pub struct Numbers {
 }
 
 /// What a run comes to.
-#[derive(Clone, Copy, Debug, PartialEq, Eq)]
+#[derive(Clone, Copy)]
 pub enum Tally {
     /// It drained, and each stay was sent.
     Drained(Numbers),
@@ -40,7 +40,7 @@ pub trait Runner {
 }
 
 /// Runs scripts on the caller's thread, as `sim_run` does.
-#[derive(Clone, Copy, Debug)]
+#[derive(Clone, Copy)]
 pub struct SimRunner {
     /// Where the runs take their memory.
     pub alloc: Global,

@@ -6,7 +6,7 @@ ghost use Rattle.sweep.specs.Settings.{changes_of, with_first, settings};
 use std::alloc::{AllocError, Global};
 
 /// What has openings that are changed.
-#[derive(Clone, Copy, Debug, PartialEq, Eq)]
+#[derive(Clone, Copy)]
 pub enum Place {
     /// The device of this number.
     Device(u32),
@@ -15,7 +15,7 @@ pub enum Place {
 }
 
 /// How many openings a device or an adapter has in place of its own.
-#[derive(Clone, Copy, Debug, PartialEq, Eq)]
+#[derive(Clone, Copy)]
 pub struct Change {
     /// The device or the adapter.
     pub place: Place,
@@ -24,7 +24,7 @@ pub struct Change {
 }
 
 /// The numbers of openings of which each is tried.
-#[derive(Debug, Drop)]
+#[derive(Drop)]
 pub struct Choice {
     /// The device or the adapter.
     pub place: Place,
@@ -33,7 +33,7 @@ pub struct Choice {
 }
 
 /// What is changed together for a run.
-#[derive(Debug, Drop)]
+#[derive(Drop)]
 pub struct Setting {
     /// A change for each choice, in the order of the choices.
     pub changes: Vec<Change>,

@@ -4,7 +4,7 @@ ghost use Rattle.std.specs.Prelude.{◌≡◌, ◌+◌, ◌<◌, ◌^◌, Option
 ghost use Rattle.wait_causes.specs.Behind.{no_behind, with_behind, behind_since, all_behind};
 
 /// What the least urgent of the stays that a full row sent in a round was, beside one that waited for it.
-#[derive(Clone, Copy, Debug, PartialEq, Eq)]
+#[derive(Clone, Copy)]
 pub enum Behind {
     /// One of a smaller weight.
     LessUrgent,
@@ -15,7 +15,7 @@ pub enum Behind {
 }
 
 /// Rounds of waiting in which a row was full, by what that row sent.
-#[derive(Clone, Copy, Debug, PartialEq, Eq)]
+#[derive(Clone, Copy)]
 pub struct FullBehind {
     /// Rounds in which it sent a stay of a smaller weight.
     pub less_urgent: u32,

@@ -12,7 +12,7 @@ use recording_file::{Name, NameKind, Span};
 
 /// In what two inputs differ beside their requests. If the weights or the lengths of rounds differ, their costs don't
 /// compare.
-#[derive(Clone, Copy, Debug, PartialEq, Eq)]
+#[derive(Clone, Copy)]
 pub struct Differences {
     /// What a round of waiting costs by priority.
     pub weights: bool,

@@ -9,7 +9,7 @@ use crate::behind::FullBehind;
 use round_net::WaitCause;
 
 /// Rounds of waiting by cause.
-#[derive(Clone, Copy, Debug, PartialEq, Eq)]
+#[derive(Clone, Copy)]
 pub struct CauseRounds {
     /// Rounds at whose ends the device was frozen by an error.
     pub error: u32,
@@ -109,7 +109,7 @@ impl CauseRounds {
 }
 
 /// A stay, where it was sent, and where other schedules send it.
-#[derive(Clone, Copy, Debug, PartialEq, Eq)]
+#[derive(Clone, Copy)]
 pub struct ExplainedStay {
     /// The number of its CCB; of a recording that of the request, from 0.
     pub ccb: u32,

@@ -7,7 +7,7 @@ use crate::table::Grouping;
 use round_net::{FreezeKind, WaitCause};
 
 /// Rounds in a row at whose ends a device or an adapter was frozen.
-#[derive(Clone, Copy, Debug, PartialEq, Eq)]
+#[derive(Clone, Copy)]
 pub struct Freeze {
     /// What was frozen, and by whom.
     pub kind: FreezeKind,

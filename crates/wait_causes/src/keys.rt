@@ -9,7 +9,7 @@ use crate::Grouping;
 use recording_file::{Name, NameKind};
 
 /// By what rows are paired.
-#[derive(Clone, Copy, Debug, PartialEq, Eq)]
+#[derive(Clone, Copy)]
 pub enum PairBy {
     /// By names, where both inputs have them, and else by numbers.
     Name,

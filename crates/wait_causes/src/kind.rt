@@ -3,7 +3,7 @@
 use round_net::WaitCause;
 
 /// What kind of input is explained.
-#[derive(Clone, Copy, Debug, PartialEq, Eq)]
+#[derive(Clone, Copy)]
 pub enum InputKind {
     /// A trace of this transport: it says who froze what.
     Trace,

@@ -14,7 +14,7 @@ use std::alloc::{AllocError, Global};
 pub const MAX_LATENCY: u32 = 4_294_967_295;
 
 /// How long some stays took, in rounds from the one of the arrival to that of the completion.
-#[derive(Clone, Copy, Debug, PartialEq, Eq)]
+#[derive(Clone, Copy)]
 pub struct Latency {
     /// How many of them have a completion. The other numbers are of these alone.
     pub stays: u32,

@@ -11,7 +11,7 @@ use crate::table::{Grouping, stays_of};
 use std::alloc::{AllocError, Global};
 
 /// Some of the stays.
-#[derive(Clone, Copy, Debug, PartialEq, Eq)]
+#[derive(Clone, Copy)]
 pub enum StayChoice {
     /// All of them.
     All,
@@ -20,7 +20,7 @@ pub enum StayChoice {
 }
 
 /// A limit of latency.
-#[derive(Clone, Copy, Debug, PartialEq, Eq)]
+#[derive(Clone, Copy)]
 pub struct LatencyLimit {
     /// The stays that it is for.
     pub of: StayChoice,
@@ -33,7 +33,7 @@ pub struct LatencyLimit {
 }
 
 /// How a limit of latency was kept.
-#[derive(Clone, Copy, Debug, PartialEq, Eq)]
+#[derive(Clone, Copy)]
 pub struct LimitCounts {
     /// The stays with a completion. One without is not counted at all.
     pub requests: u32,

@@ -13,7 +13,7 @@ use recording_file::{Name, NameKind};
 use std::alloc::{AllocError, Global};
 
 /// What the stays of an adapter, device, driver or run level waited before a change, and after it.
-#[derive(Clone, Copy, Debug, PartialEq, Eq)]
+#[derive(Clone, Copy)]
 pub struct PairedRow {
     /// Its row before; none if it had no stay, or nothing before is called so.
     pub before: Option<Row>,

@@ -16,7 +16,7 @@ use round_net::{MAX_NET_ROUNDS, WaitCause};
 use std::alloc::{AllocError, Global};
 
 /// Weighted rounds by cause.
-#[derive(Clone, Copy, Debug, PartialEq, Eq)]
+#[derive(Clone, Copy)]
 pub struct CauseCosts {
     /// While the device was frozen by an error.
     pub error: u64,
@@ -84,7 +84,7 @@ impl CauseCosts {
 }
 
 /// Weighted rounds in which a row was full, by what that row sent.
-#[derive(Clone, Copy, Debug, PartialEq, Eq)]
+#[derive(Clone, Copy)]
 pub struct BehindCosts {
     /// Behind a stay of a smaller weight.
     pub less_urgent: u64,
@@ -95,7 +95,7 @@ pub struct BehindCosts {
 }
 
 /// What some stays waited, and what that cost.
-#[derive(Clone, Copy, Debug, PartialEq, Eq)]
+#[derive(Clone, Copy)]
 pub struct Part {
     /// How many stays these are.
     pub stays: u32,

@@ -10,7 +10,7 @@ use round_net::{Net, cell};
 use std::alloc::{AllocError, Global};
 
 /// What a row sent in a round.
-#[derive(Clone, Copy, Debug, PartialEq, Eq)]
+#[derive(Clone, Copy)]
 pub(crate) struct Sends {
     /// How many stays.
     pub count: u32,

@@ -12,7 +12,7 @@ use crate::part::{Part, part_of};
 use std::alloc::{AllocError, Global};
 
 /// What the rows of a table are made by.
-#[derive(Clone, Copy, Debug, PartialEq, Eq)]
+#[derive(Clone, Copy)]
 pub enum Grouping {
     /// The adapter of the stay's device.
     Adapter,
@@ -39,7 +39,7 @@ impl Grouping {
 }
 
 /// A row of a table.
-#[derive(Clone, Copy, Debug, PartialEq, Eq)]
+#[derive(Clone, Copy)]
 pub struct Row {
     /// The number of the adapter, device, driver or run level.
     pub number: u32,

@@ -11,7 +11,7 @@ use round_net::WaitCause;
 use std::alloc::{AllocError, Global};
 
 /// Rounds in a row that a stay waited for one cause.
-#[derive(Clone, Copy, Debug, PartialEq, Eq)]
+#[derive(Clone, Copy)]
 pub struct Wait {
     /// The cause.
     pub cause: WaitCause,

@@ -6,7 +6,7 @@ use capture_windows::WindowFault;
 use std::alloc::{AllocError, AllocFailed};
 
 /// Why there is no window, or no recording of one.
-#[derive(Clone, Copy, Debug)]
+#[derive(Clone, Copy)]
 pub enum CutFault {
     /// There is no recording of its requests.
     Capture(CaptureFault),

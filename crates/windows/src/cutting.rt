@@ -9,7 +9,7 @@ use recording_file::Recording;
 use std::alloc::{AllocError, Global};
 
 /// A recording that was cut in two after a round.
-#[derive(Debug, Drop)]
+#[derive(Drop)]
 pub struct TwoWindows {
     /// What was started up to that round.
     pub first: Recording,

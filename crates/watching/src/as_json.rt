@@ -24,22 +24,26 @@ impl Described for Line<'_> {}
 impl Serialize for Line<'_> {
     fn serialize<S: Serializer>(&self, out: &mut S) -> Result<(), S::Error> {
         let window = self.window;
-        out.begin_map(None)?;
         let number = if window.is_all { "windows" } else { "window" };
-        put(out, number, &window.number)?;
+        out.begin_map(None)?;
+        put_numbers(out, &[(number, window.number)])?;
         if let Some(host) = window.host {
-            put(out, "host", &host)?;
+            put_text(out, "host", host)?;
         }
-        put(out, "from_ns", &window.from)?;
-        put(out, "to_ns", &window.until)?;
-        put(out, "round_ns", &nanoseconds(window.round))?;
-        put(out, "rounds", &window.rounds)?;
-        put(out, "refused_lines", &window.refused)?;
-        put(out, "carried", &window.carried)?;
-        out.flatten_next()?;
-        self.sums.whole().serialize(out)?;
-        put_named(out, "devices", &self.devices)?;
-        put_named(out, "drivers", &self.drivers)?;
+        put_numbers(
+            out,
+            &[
+                ("from_ns", window.from),
+                ("to_ns", window.until),
+                ("round_ns", nanoseconds(window.round)),
+                ("rounds", window.rounds),
+                ("refused_lines", window.refused),
+                ("carried", window.carried),
+            ],
+        )?;
+        put_numbers(out, &self.sums.whole().named())?;
+        put_by_name(out, "devices", &self.devices)?;
+        put_by_name(out, "drivers", &self.drivers)?;
         self.put_levels(out)?;
         self.put_blame(out)?;
         out.end_map()
@@ -57,12 +61,10 @@ impl Line<'_> {
                 && let Some([p50, p99, p999]) = self.ranks.get(level as usize)
             {
                 out.begin_map(None)?;
-                put(out, "level", &level)?;
-                out.flatten_next()?;
-                costs.serialize(out)?;
-                put(out, "p50", p50)?;
-                put(out, "p99", p99)?;
-                put(out, "p999", p999)?;
+                put_numbers(out, &[("level", u64::from(level))])?;
+                put_numbers(out, &costs.named())?;
+                let (p50, p99, p999) = (u64::from(*p50), u64::from(*p99), u64::from(*p999));
+                put_numbers(out, &[("p50", p50), ("p99", p99), ("p999", p999)])?;
                 out.end_map()?;
             }
         }
@@ -74,18 +76,28 @@ impl Line<'_> {
         out.begin_seq(None)?;
         for (pair, blame) in self.sums.pairs() {
             out.begin_map(None)?;
-            put(out, "waiting", &pair.waiting)?;
-            put(out, "by", &pair.by)?;
-            put(out, "waited", &blame.waited)?;
-            put(out, "avoidable", &blame.avoidable)?;
-            put(out, "cost", &blame.cost)?;
+            put_text(out, "waiting", &pair.waiting)?;
+            out.key("by")?;
+            match &pair.by {
+                Some(by) => out.str(by)?,
+                None => out.unit()?,
+            }
+            put_numbers(
+                out,
+                &[
+                    ("waited", blame.waited),
+                    ("avoidable", blame.avoidable),
+                    ("cost", blame.cost),
+                ],
+            )?;
             out.end_map()?;
         }
         out.end_seq()
     }
 }
 
-fn put_named<S: Serializer>(
+// Writes a list of what each name cost as a member of the object that is open.
+fn put_by_name<S: Serializer>(
     out: &mut S,
     key: &str,
     list: &BTreeMap<String, Costs>,
@@ -94,17 +106,26 @@ fn put_named<S: Serializer>(
     out.begin_seq(None)?;
     for (name, costs) in list {
         out.begin_map(None)?;
-        put(out, "name", name)?;
-        out.flatten_next()?;
-        costs.serialize(out)?;
+        put_text(out, "name", name)?;
+        put_numbers(out, &costs.named())?;
         out.end_map()?;
     }
     out.end_seq()
 }
 
-fn put<S: Serializer, T: Serialize>(out: &mut S, key: &str, value: &T) -> Result<(), S::Error> {
+// Writes numbers as members of the object that is open.
+fn put_numbers<S: Serializer>(out: &mut S, members: &[(&str, u64)]) -> Result<(), S::Error> {
+    for (key, number) in members {
+        out.key(key)?;
+        out.u64(*number)?;
+    }
+    Ok(())
+}
+
+// Writes a text as a member of the object that is open.
+fn put_text<S: Serializer>(out: &mut S, key: &str, text: &str) -> Result<(), S::Error> {
     out.key(key)?;
-    value.serialize(out)
+    out.str(text)
 }
 
 /// A line without its line feed: the number of the window, or how many there are; the host; from when to when it is; how long a round is,
@@ -114,11 +135,7 @@ pub fn window_json(alloc: Global, window: Window<'_>, sums: &Sums) -> Result<Str
     let mut ranks = Vec::new(alloc);
     for level in 0..LEVELS {
         let of = Some(level);
-        ranks.push([
-            sums.rank(of, 500)?,
-            sums.rank(of, 990)?,
-            sums.rank(of, 999)?,
-        ])?;
+        ranks.push([sums.rank(of, 500), sums.rank(of, 990), sums.rank(of, 999)])?;
     }
     let line = Line {
         window,

@@ -1,10 +1,9 @@
 //! What some requests waited, and what that cost.
 
-use serde::Serialize;
 use wait_causes::{CauseRounds, ExplainedStay};
 
 /// What some requests waited, and what that cost in weighted rounds.
-#[derive(Clone, Copy, Debug, Default, PartialEq, Eq, Serialize)]
+#[derive(Clone, Copy, Default)]
 pub struct Costs {
     /// How many requests these are.
     pub requests: u64,
@@ -72,6 +71,22 @@ impl Costs {
             adapter_full: self.adapter_full.saturating_add(other.adapter_full),
             not_asked: self.not_asked.saturating_add(other.not_asked),
         }
+    }
+
+    /// Each number under its name.
+    pub(crate) fn named(&self) -> [(&'static str, u64); 10] {
+        [
+            ("requests", self.requests),
+            ("waited", self.waited),
+            ("live", self.live),
+            ("pace", self.pace),
+            ("best", self.best),
+            ("device_stopped", self.device_stopped),
+            ("adapter_stopped", self.adapter_stopped),
+            ("device_full", self.device_full),
+            ("adapter_full", self.adapter_full),
+            ("not_asked", self.not_asked),
+        ]
     }
 
     /// What another order of the same starts would have avoided.

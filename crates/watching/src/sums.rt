@@ -12,7 +12,7 @@ use wait_causes::{Explanation, Grouping};
 pub const LEVELS: u32 = 5;
 
 /// A device, a driver and a run level.
-#[derive(Debug, Drop, PartialEq, Eq, PartialOrd, Ord)]
+#[derive(Drop, PartialEq, Eq, PartialOrd, Ord)]
 pub struct Place {
     /// The device's name.
     pub device: String,
@@ -23,7 +23,7 @@ pub struct Place {
 }
 
 /// Who waited for whom.
-#[derive(Debug, Drop, PartialEq, Eq, PartialOrd, Ord)]
+#[derive(Drop, PartialEq, Eq, PartialOrd, Ord)]
 pub struct Pair {
     /// The driver that waited.
     pub waiting: String,
@@ -32,7 +32,7 @@ pub struct Pair {
 }
 
 /// How long some drivers waited for others, and what that cost.
-#[derive(Clone, Copy, Debug, Default, PartialEq, Eq)]
+#[derive(Clone, Copy, Default)]
 pub struct Blame {
     /// The rounds that they waited.
     pub waited: u64,
@@ -43,12 +43,12 @@ pub struct Blame {
 }
 
 /// What requests waited.
-#[derive(Debug, Drop)]
+#[derive(Drop)]
 pub struct Sums {
     alloc: Global,
     places: BTreeMap<Place, Costs>,
     pairs: BTreeMap<Pair, Blame>,
-    // How often each wait in rounds occurs, by run level and wait.
+    // How often each wait in rounds occurs, by wait and run level.
     waits: BTreeMap<(u32, u32), u64>,
 }
 
@@ -74,7 +74,7 @@ impl Sums {
             } else {
                 numbered.insert(at, costs)?;
             }
-            sums.add_waits(stay.level, stay.live.saturating_sub(stay.arrival), 1)?;
+            sums.add_waits(stay.live.saturating_sub(stay.arrival), stay.level, 1)?;
         }
         for ((device, driver, level), costs) in &numbered {
             let place = Place {
@@ -110,8 +110,8 @@ impl Sums {
             };
             self.add_pair(pair, *blame)?;
         }
-        for ((level, wait), count) in &other.waits {
-            self.add_waits(*level, *wait, *count)?;
+        for ((wait, level), count) in &other.waits {
+            self.add_waits(*wait, *level, *count)?;
         }
         Ok(())
     }
@@ -136,11 +136,11 @@ impl Sums {
         Ok(())
     }
 
-    fn add_waits(&mut self, level: u32, wait: u32, count: u64) -> Result<(), AllocError> {
-        if let Some(sum) = self.waits.get_mut(&(level, wait)) {
+    fn add_waits(&mut self, wait: u32, level: u32, count: u64) -> Result<(), AllocError> {
+        if let Some(sum) = self.waits.get_mut(&(wait, level)) {
             *sum = sum.saturating_add(count);
         } else {
-            self.waits.insert((level, wait), count)?;
+            self.waits.insert((wait, level), count)?;
         }
         Ok(())
     }
@@ -193,25 +193,24 @@ impl Sums {
     }
 
     /// The least wait in rounds that so many thousandths of the waits don't pass, of a run level or of all; 0 of none.
-    pub fn rank(&self, level: Option<u32>, thousandths: u64) -> Result<u32, AllocError> {
-        let mut waits: BTreeMap<u32, u64> = BTreeMap::new(self.alloc);
+    pub fn rank(&self, level: Option<u32>, thousandths: u64) -> u32 {
         let mut all = 0u64;
-        for ((of, wait), count) in &self.waits {
+        for ((_wait, of), count) in &self.waits {
             if level.is_none_or(|level| level == *of) {
-                let before = waits.get(wait).copied().unwrap_or(0);
-                waits.insert(*wait, before.saturating_add(*count))?;
                 all = all.saturating_add(*count);
             }
         }
         let place = all.saturating_mul(thousandths).saturating_add(999) / 1_000;
         let mut passed = 0u64;
-        for (wait, count) in &waits {
-            passed = passed.saturating_add(*count);
-            if passed >= place {
-                return Ok(*wait);
+        for ((wait, of), count) in &self.waits {
+            if level.is_none_or(|level| level == *of) {
+                passed = passed.saturating_add(*count);
+                if passed >= place {
+                    return *wait;
+                }
             }
         }
-        Ok(0)
+        0
     }
 }
 

@@ -28,7 +28,7 @@ pub fn table_row(alloc: Global, window: Window<'_>, sums: &Sums) -> Result<Strin
     ] {
         page.show(format_args!(" {:>width$}", share(alloc, part, whole.live)?));
     }
-    let p99 = u64::from(sums.rank(None, 990)?);
+    let p99 = u64::from(sums.rank(None, 990));
     page.show(format_args!(" {:>10}", span(alloc, window.round, p99)?));
     if whole.waited > 0 {
         page.put("  ");

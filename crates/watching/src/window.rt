@@ -3,7 +3,7 @@
 use recording_file::Span;
 
 /// A window, or all of them: from when to when it is, and what is known of it beside what its requests waited.
-#[derive(Clone, Copy, Debug)]
+#[derive(Clone, Copy)]
 pub struct Window<'a> {
     /// The number of a window, from 1 on, or how many there are.
     pub number: u64,

@@ -4,7 +4,6 @@
 use std::io::IsTerminal;
 use std::process::ExitCode;
 
-mod change_lists;
 mod change_option;
 mod change_texts;
 mod change_words;

@@ -10,7 +10,7 @@ use round_net::{Net, cost};
 use std::alloc::{AllocError, Global};
 
 /// What all stays of a net wait for, by each order, in weighted rounds.
-#[derive(Clone, Copy, Debug, PartialEq, Eq)]
+#[derive(Clone, Copy, PartialEq, Eq)]
 pub struct Costs {
     /// If who came first goes first; none if one isn't sent in time then.
     pub first_come: Option<u64>,

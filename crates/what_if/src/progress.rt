@@ -7,7 +7,7 @@ pub trait Progress {
 }
 
 /// Nobody is.
-#[derive(Clone, Copy, Debug)]
+#[derive(Clone, Copy)]
 pub struct NoProgress;
 
 impl Progress for NoProgress {

@@ -1,7 +1,7 @@
 use Rattle.std.specs.Prelude.{All}
 use Rattle.round_net.specs.Rows.{instance_of_rows}
 use Rattle.changes.specs.Changes.{IsChangeOf}
-use Rattle.camxpt.proofs.change_lists.changes_of_net.Given as goal
+use Rattle.what_if.proofs.change_lists.changes_of_net.Given as goal
 
 abbrev pub invariant-loop-change : goal.invariant-loop-change
 invariant-loop-change l = All (IsChangeOf (instance_of_rows l.net)) l.list.items

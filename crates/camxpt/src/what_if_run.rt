@@ -1,6 +1,5 @@
 //! What the waiting of a trace or a recording would have cost by other orders, and with more openings.
 
-use crate::change_lists::{is_change_of, lists_of_net};
 use crate::change_texts::{options_of, words_of};
 use crate::change_words::{AskedRow, changes_of_row, names_nothing};
 use crate::failure::Failure;
@@ -14,8 +13,8 @@ use std::thread::Threads;
 use std::time::Clock;
 use views::{WhatIfRow, WhatIfTable, what_if_json, what_if_page};
 use wait_causes::{Explanation, InputKind};
-use what_if::{Costs, costs_of, what_if};
-use wording::{ByWeight, Captions, LevelWaits, level_waits};
+use what_if::{Costs, costs_of, is_change_of, lists_of_net, what_if};
+use wording::{ByWeight, Captions, LevelWaits, items_at, level_waits, places_by};
 
 const AS_IT_WAS: &str = "as it was";
 
@@ -224,18 +223,30 @@ fn push_row(
 // The places of the lists that change a cost, those that save most first: by the best cost, then by that of the order by weight,
 // and then in the order of trying; at most that many.
 fn best_places(alloc: Global, costs: &[Costs], top: usize) -> Result<Vec<usize>, AllocError> {
-    let mut ranked = Vec::new(alloc);
-    for (place, tried) in costs.iter().enumerate() {
-        if costs.first().is_some_and(|unchanged| unchanged != tried) {
-            ranked.push((tried.best, tried.by_weight.unwrap_or(u64::MAX), place))?;
+    let mut places = Vec::new(alloc);
+    for place in &places_by_costs(alloc, costs)? {
+        if places.len() < top
+            && let (Some(tried), Some(unchanged)) = (costs.get(*place), costs.first())
+            && tried != unchanged
+        {
+            places.push(*place)?;
         }
     }
-    ranked.sort_unstable();
-    let mut places = Vec::new(alloc);
-    for (_, _, place) in ranked.iter().take(top) {
-        places.push(*place)?;
-    }
     Ok(places)
+}
+
+// All places in that order: equal ones stay as the order by weight has them.
+fn places_by_costs(alloc: Global, costs: &[Costs]) -> Result<Vec<usize>, AllocError> {
+    let mut by_weight = Vec::with_capacity(alloc, costs.len())?;
+    for tried in costs {
+        by_weight.push(tried.by_weight.unwrap_or(u64::MAX))?;
+    }
+    let places = places_by(alloc, &by_weight)?;
+    let mut best = Vec::with_capacity(alloc, costs.len())?;
+    for tried in &items_at(alloc, costs, &places)? {
+        best.push(tried.best)?;
+    }
+    items_at(alloc, &places, &places_by(alloc, &best)?)
 }
 
 // Puts the row of the changes of all lists at these places together after the rows, unless it costs what the first does.

@@ -1,11 +1,11 @@
 //! Which ranges are drawn.
 
-use crate::order::{items_at, places_by};
 use crate::round_figures::{RoundFigures, count_of};
 use crate::round_range::{MAX_BARS, RoundRange, by_cost, cut};
 use crate::scene::Scene;
 use std::alloc::{AllocError, Global};
 use wait_causes::ExplainedStay;
+use wording::{items_at, places_by};
 
 // The least number of rounds of a range, and the number where not all ranges are drawn.
 const LENGTH: u32 = 64;
@@ -19,7 +19,7 @@ const MAX_PIECES: u64 = 8_192;
 const MAX_COSTLIEST: usize = 8;
 
 /// Which ranges are drawn.
-#[derive(Clone, Copy, PartialEq)]
+#[derive(Clone, Copy)]
 pub(crate) enum Shown {
     /// All.
     All,

@@ -4,13 +4,13 @@ use crate::alike::{Figure, alike_from};
 use crate::bars::push_stay_name;
 use crate::blame_table::push_blame;
 use crate::choice::Choice;
-use crate::order::{items_at, places_from_greatest};
 use crate::scene::{Scene, parts_by_cost};
 use recording_file::{NameKind, Span};
 use std::alloc::AllocError;
 use wait_causes::{ExplainedStay, Grouping, Row};
 use wording::{
-    Page, push_end, push_number, push_numbers, push_range, push_share, push_signed, push_span,
+    Page, items_at, places_from_greatest, push_end, push_number, push_numbers, push_range,
+    push_share, push_signed, push_span,
 };
 
 // How many rows of stays are listed.

@@ -1,9 +1,9 @@
 //! Lanes of bars: stays that are drawn side by side don't cover one another.
 
-use crate::order::{items_at, places_by};
 use crate::scene::Scene;
 use crate::slots::Slots;
 use std::alloc::{AllocError, Global};
+use wording::{items_at, places_by};
 
 /// The lanes of the device's stays at these places, each the places of its stays: in the order in which they arrived each
 /// stay has the first lane that is free from its arrival to its last mark.

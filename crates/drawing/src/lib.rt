@@ -18,7 +18,6 @@ mod lanes;
 mod layout;
 mod legend;
 mod loads;
-mod order;
 mod overview;
 mod round_figures;
 mod round_range;

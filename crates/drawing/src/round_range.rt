@@ -1,9 +1,9 @@
 //! Ranges of rounds whose bars are drawn together.
 
-use crate::order::{items_at, places_from_greatest};
 use crate::round_figures::{RoundFigures, count_of};
 use std::alloc::{AllocError, Global};
 use wait_causes::ExplainedStay;
+use wording::{items_at, places_from_greatest};
 
 /// The most bars of a page that doesn't have all, and of a range.
 pub(crate) const MAX_BARS: usize = 4_096;

@@ -1,12 +1,11 @@
 //! What a page is drawn from, and what drivers, devices, adapters and links are called on it.
 
-use crate::order::{items_at, places_from_greatest};
 use cam_path::path_name;
 use recording_file::NameKind;
 use round_net::Net;
 use std::alloc::{AllocError, Global};
 use wait_causes::{Explanation, Grouping, Part, Row};
-use wording::{Captions, Page, push_number};
+use wording::{Captions, Page, items_at, places_from_greatest, push_number};
 
 /// How many drivers have a colour of their own.
 pub(crate) const COLOURS: usize = 8;

@@ -1,12 +1,14 @@
 //! The tables of parts and freezes.
 
-use crate::order::places_from_greatest;
 use crate::scene::{Scene, parts_by_cost};
 use crate::words::freeze_words;
 use recording_file::NameKind;
 use std::alloc::AllocError;
 use wait_causes::{Freeze, FreezeKind, Grouping, Part, Row};
-use wording::{ByWeight, Page, WaitRanks, level_waits, push_number, push_numbers, push_signed};
+use wording::{
+    ByWeight, Page, WaitRanks, level_waits, places_from_greatest, push_number, push_numbers,
+    push_signed,
+};
 
 // The columns of how long stays waited.
 const WAITS: &str =

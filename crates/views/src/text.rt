@@ -10,7 +10,6 @@ mod freezes;
 mod layout;
 mod level_waits;
 mod limits;
-mod order;
 mod stays;
 mod tables;
 mod totals;

@@ -9,10 +9,12 @@ pub use numbers::{
     nanoseconds, push_end, push_nanoseconds, push_number, push_numbers, push_range, push_round,
     push_rounds, push_share, push_signed, push_span, push_time, shift, spelled,
 };
+pub use order::{items_at, places_by, places_from_greatest};
 pub use waits_by_level::{ByWeight, LevelWaits, WaitRanks, level_waits};
 
 mod captions;
 mod causes;
 mod making;
 mod numbers;
+mod order;
 mod waits_by_level;

@@ -7,6 +7,7 @@ use crate::timeline::writer::{EventWriter, Track};
 use round_net::Net;
 use std::alloc::{AllocError, Global};
 use wait_causes::{ExplainedStay, Explanation, FirstWaits, InputKind};
+use wording::places_by;
 
 /// Puts the requests: in the order in which they arrived each has the first slot of its device that is free from its arrival to
 /// its send. At most so many waits of a request are listed, and what is left of them is one slice more.
@@ -54,17 +55,16 @@ fn slots_of(
     stays: &[ExplainedStay],
 ) -> Result<Vec<u32>, AllocError> {
     let mut arrivals = Vec::with_capacity(alloc, stays.len())?;
-    for (place, stay) in stays.iter().enumerate() {
-        arrivals.push((stay.arrival, place))?;
+    for stay in stays {
+        arrivals.push(u64::from(stay.arrival))?;
     }
-    arrivals.sort_unstable();
     let mut taken = vec![in alloc; 0u32; stays.len()]?;
-    for (arrival, place) in &arrivals {
+    for place in &places_by(alloc, &arrivals)? {
         if let Some(stay) = stays.get(*place)
             && let Some(there) = slots.get_mut(stay.device as usize)
             && let Some(slot) = taken.get_mut(*place)
         {
-            *slot = there.take(*arrival, stay.live)?;
+            *slot = there.take(stay.arrival, stay.live)?;
         }
     }
     Ok(taken)

@@ -18,7 +18,7 @@ pub(crate) struct EventWriter {
 }
 
 /// Where an event stands: a process, which is a device or an adapter, and one of its rows.
-#[derive(Clone, Copy, PartialEq)]
+#[derive(Clone, Copy, PartialEq, Eq)]
 pub(crate) struct Track {
     pub(crate) process: u32,
     pub(crate) row: u32,

@@ -7,7 +7,6 @@ use crate::text::columns::push_spelled;
 use crate::text::freezes::push_freezes;
 use crate::text::level_waits::push_level_waits;
 use crate::text::limits::push_limits;
-use crate::text::order::{first_of, most_first};
 use crate::text::stays::push_stays;
 use crate::text::tables::push_tables;
 use crate::text::totals::{push_by_weight, push_totals};
@@ -19,7 +18,9 @@ use recording_file::Span;
 use round_net::Net;
 use std::alloc::{AllocError, Global};
 use wait_causes::{ExplainedStay, Explanation, Freeze, Grouping, InputKind, Part};
-use wording::{ByWeight, Captions, LevelWaits, Page, level_waits, plain_words};
+use wording::{
+    ByWeight, Captions, LevelWaits, Page, level_waits, places_from_greatest, plain_words,
+};
 
 // What stands below the costs by cause.
 const NO_SAVING: &str =
@@ -155,7 +156,7 @@ fn worst_stays(alloc: Global, stays: &[ExplainedStay]) -> Result<Vec<usize>, All
     for stay in stays {
         costs.push(stay.cost())?;
     }
-    most_first(alloc, &costs)
+    costliest_first(alloc, &costs)
 }
 
 // The places of the freezes, those that cost most first.
@@ -164,7 +165,19 @@ fn worst_freezes(alloc: Global, freezes: &[Freeze]) -> Result<Vec<usize>, AllocE
     for freeze in freezes {
         costs.push(freeze.cost)?;
     }
-    most_first(alloc, &costs)
+    costliest_first(alloc, &costs)
+}
+
+// The places of the costs above 0, most first; of equal ones the earlier.
+fn costliest_first(alloc: Global, costs: &[u64]) -> Result<Vec<usize>, AllocError> {
+    let mut places = places_from_greatest(alloc, costs)?;
+    places.truncate(costs.iter().filter(|cost| **cost > 0).count());
+    Ok(places)
+}
+
+// The item at the first of these places.
+fn first_of<'a, T>(items: &'a [T], places: &[usize]) -> Option<&'a T> {
+    items.get(*places.first()?)
 }
 
 // Puts the costs by cause on the page.

@@ -9,8 +9,8 @@ use recording_file::{RecordingFault, RequestError};
 use report_text::ReportFault;
 use sim_worker::LiveFault;
 use std::alloc::AllocError;
-use std::io;
 use std::process::ExitCode;
+use std::{fmt, io};
 use sweep::PlanFault;
 use thiserror::Error;
 use trace_file::{TraceFault, WriteFault};
@@ -19,65 +19,94 @@ use trace_file::{TraceFault, WriteFault};
 #[derive(Clone, Copy, Debug, Error)]
 pub enum Failure {
     /// A word of the command line isn't UTF-8.
-    #[error("a word of the command line isn't UTF-8")]
     WordNotUtf8,
     /// The files of these two arguments are to be read from standard input, which there is once.
-    #[error("only one of {} and {} can be standard input", .0.word(), .1.word())]
     StandardInputTwice(Argument, Argument),
     /// No words are completed for a shell of this name.
-    #[error("only bash, zsh and fish complete words")]
     NoShell,
     /// The rounds to be drawn aren't two rounds of which the first is from 1 on and not after the second.
-    #[error("--rounds takes A-B, rounds from A to B, as 412-500")]
     NoRange,
     /// Rounds after the last one, which is this, are to be drawn.
-    #[error("--rounds: the last round is {0}")]
     NoSuchRounds(u32),
     /// The word at this place among those of `--slo` isn't of its form.
-    #[error("--slo takes driver:NAME, level:N or all, and then :pN=TIME, as all:p99=5ms")]
     NoLimit(usize),
     /// The word at this place among them names a driver that isn't there.
-    #[error("no driver has this name")]
     NoSuchDriver(usize),
     /// The input of limits in time doesn't say how long a round is.
-    #[error("--slo: the input doesn't say how long a round is")]
     NoTimes,
     /// It doesn't say when requests were completed.
-    #[error("--slo: the recording doesn't say when requests were completed")]
     NoCompletions,
     /// The word at this place among those of this option isn't of its form.
-    #[error("{}", .0.form())]
     NoChange(ChangeOption, usize),
     /// The word at this place among them names what isn't there.
-    #[error("no {} has this name or number", .0.what())]
     NoSuchResource(ChangeOption, usize),
     /// By an order so many requests aren't sent within the rounds, and so many within them but after their last one.
-    #[error("{0} not sent within the rounds, {1} after their last one")]
     NotInTime(u32, u32),
     /// A request that can't be started in another round.
-    #[error("{0}")]
     Request(#[from] RequestError),
     /// A sweep by no seed, of more runs than there may be, or without memory for it.
-    #[error("{0}")]
     Sweep(#[from] PlanFault),
     /// A load that is more than a script may have.
-    #[error("{0}")]
     Load(#[from] ScriptFault),
     /// A file that can't be opened: the one that this argument names, and the system's reason.
-    #[error("cannot open{}", .0.of_two())]
     CannotOpen(Argument, io::Error),
     /// A write to standard output that failed, and the system's reason.
-    #[error("write failed")]
     CannotWrite(io::Error),
     /// A number after this option or argument that isn't of digits alone.
-    #[error("{} takes a number, of digits alone", .0.word())]
     NoNumber(Number),
     /// A text that isn't what it has to be, a read or write that failed, or no memory.
-    #[error("{0}")]
     Audit(#[from] AuditFault),
     /// A run on many threads that gave nothing.
-    #[error("{0}")]
     Live(#[from] LiveFault),
+}
+
+impl fmt::Display for Failure {
+    fn fmt<W: fmt::Write>(&self, f: &mut fmt::Formatter<W>) -> fmt::Result {
+        f.write_str(match self {
+            Failure::WordNotUtf8 => "a word of the command line isn't UTF-8",
+            Failure::StandardInputTwice(one, other) => return write!(
+                f,
+                "only one of {} and {} can be standard input",
+                one.word(),
+                other.word()
+            ),
+            Failure::NoShell => "only bash, zsh and fish complete words",
+            Failure::NoRange => "--rounds takes A-B, rounds from A to B, as 412-500",
+            Failure::NoSuchRounds(last) => return write!(f, "--rounds: the last round is {last}"),
+            Failure::NoLimit(_) =>
+                "--slo takes driver:NAME, level:N or all, and then :pN=TIME, as all:p99=5ms",
+            Failure::NoSuchDriver(_) => "no driver has this name",
+            Failure::NoTimes => "--slo: the input doesn't say how long a round is",
+            Failure::NoCompletions =>
+                "--slo: the recording doesn't say when requests were completed",
+            Failure::NoChange(option, _) => return write!(f, "{}", option.form()),
+            Failure::NoSuchResource(option, _) => return write!(
+                f,
+                "no {} has this name or number",
+                option.what()
+            ),
+            Failure::NotInTime(unsent, late) => return write!(
+                f,
+                "{unsent} not sent within the rounds, {late} after their last one"
+            ),
+            Failure::Request(fault) => return write!(f, "{fault}"),
+            Failure::Sweep(fault) => return write!(f, "{fault}"),
+            Failure::Load(fault) => return write!(f, "{fault}"),
+            Failure::CannotOpen(argument, _) => return write!(
+                f,
+                "cannot open{}",
+                argument.of_two()
+            ),
+            Failure::CannotWrite(_) => "write failed",
+            Failure::NoNumber(number) => return write!(
+                f,
+                "{} takes a number, of digits alone",
+                number.word()
+            ),
+            Failure::Audit(fault) => return write!(f, "{fault}"),
+            Failure::Live(fault) => return write!(f, "{fault}"),
+        })
+    }
 }
 
 impl Failure {

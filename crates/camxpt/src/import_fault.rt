@@ -12,7 +12,7 @@ use thiserror::Error;
 use window_recordings::CutFault;
 
 /// An option that names a file or a folder to write to.
-#[derive(Clone, Copy, Debug, PartialEq, Eq)]
+#[derive(Clone, Copy, Debug)]
 pub enum FileOption {
     Out,
     Keep,

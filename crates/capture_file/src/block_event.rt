@@ -1,7 +1,7 @@
 //! What an event of a block device says.
 
 /// What an event says of a request.
-#[derive(Clone, Copy, PartialEq, Eq)]
+#[derive(Clone, Copy)]
 pub enum Action {
     /// It arrived.
     Arrives,
@@ -18,7 +18,7 @@ pub enum Action {
 }
 
 /// The sectors of a request.
-#[derive(Clone, Copy, PartialEq, Eq)]
+#[derive(Clone, Copy)]
 pub enum Extent {
     /// From the first number on as many as the second says.
     Sectors(u64, u64),

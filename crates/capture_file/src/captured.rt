@@ -3,7 +3,7 @@
 use capture::{DeviceFlight, TimedRequest};
 
 /// The requests of a capture, by arrival, and of equal arrivals in the order of the input.
-#[derive(Debug, Drop)]
+#[derive(Drop)]
 pub struct Capture {
     /// The requests. Their drivers and devices are places in the two lists below.
     pub requests: Vec<TimedRequest>,
@@ -25,7 +25,7 @@ pub struct Capture {
 }
 
 /// How much was read, and how much was left out.
-#[derive(Clone, Copy, Debug, Default, PartialEq, Eq)]
+#[derive(Clone, Copy, Default)]
 pub struct Counts {
     /// Lines, also blank and refused ones.
     pub lines: u64,

@@ -1,7 +1,7 @@
 //! Which devices are taken, and as which ones.
 
 /// Devices that are taken.
-#[derive(Debug, Drop)]
+#[derive(Drop)]
 pub enum DevicePick {
     /// The device of this name.
     Name(String),

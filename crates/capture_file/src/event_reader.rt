@@ -24,7 +24,7 @@ const NO_TAG: Tag = Tag {
 };
 
 /// What kind of text events are.
-#[derive(Clone, Copy, PartialEq, Eq)]
+#[derive(Clone, Copy)]
 pub enum EventForm {
     /// The default text of `blkparse`. It has no I/O classes, so priorities go by direction.
     Blkparse,

@@ -5,7 +5,7 @@ use crate::number::{hexadecimal, number};
 use crate::words::{next_column, next_word};
 
 /// The version of an iolog.
-#[derive(Clone, Copy, PartialEq, Eq)]
+#[derive(Clone, Copy)]
 pub enum IologVersion {
     /// No times, but waits.
     Two,

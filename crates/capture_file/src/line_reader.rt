@@ -45,7 +45,7 @@ pub enum ReadFault {
 }
 
 /// Which of the lines that are refused are left out.
-#[derive(Clone, Copy, Debug, PartialEq, Eq)]
+#[derive(Clone, Copy)]
 pub enum Tolerance {
     /// None: the first one is a fault.
     Strict,

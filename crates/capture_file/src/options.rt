@@ -9,7 +9,7 @@ pub const SLACK: u64 = 1_000_000_000;
 pub const SKEW: u64 = 100_000;
 
 /// Where the priorities of requests come from.
-#[derive(Clone, Copy, Debug, Default, PartialEq, Eq)]
+#[derive(Clone, Copy, Default)]
 pub enum Priorities {
     /// By I/O class and level where the input has them, or by its priority column; else by direction.
     #[default]
@@ -21,7 +21,7 @@ pub enum Priorities {
 }
 
 /// What a driver is: all requests that have one name, one process id or one control group.
-#[derive(Clone, Copy, Debug, PartialEq, Eq)]
+#[derive(Clone, Copy)]
 pub enum DriverBy {
     Comm,
     Pid,
@@ -29,7 +29,7 @@ pub enum DriverBy {
 }
 
 /// What is taken from an input, and with which priorities.
-#[derive(Debug, Drop)]
+#[derive(Drop)]
 pub struct Options {
     /// Where priorities come from.
     pub priorities: Priorities,
@@ -94,7 +94,7 @@ impl Options {
 }
 
 /// The unit of the times of a CSV file.
-#[derive(Clone, Copy, Debug, PartialEq, Eq)]
+#[derive(Clone, Copy, PartialEq, Eq)]
 pub enum CsvTimeUnit {
     Nanoseconds,
     Microseconds,

@@ -1,7 +1,7 @@
 //! Quotes in a line of CSV.
 
 // Where a place in a line is.
-#[derive(Clone, Copy, PartialEq, Eq)]
+#[derive(Clone, Copy)]
 enum Place {
     /// At the beginning of a field.
     Front,

@@ -24,7 +24,7 @@ const KINDS: [(&str, Action, Form); 7] = [
 ];
 
 // What stands between the flags and the sectors: nothing, the bytes and the command, or the command.
-#[derive(Clone, Copy, PartialEq, Eq)]
+#[derive(Clone, Copy)]
 enum Form {
     Bio,
     Request,

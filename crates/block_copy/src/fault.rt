@@ -1,6 +1,5 @@
 //! Why the copy failed.
 
-use audit_report::AuditFault;
 use cam_types::ConfigError;
 use event_rules::Refusal;
 use std::alloc::AllocError;
@@ -27,9 +26,6 @@ pub enum Fault {
     /// The trace wasn't written.
     #[error("{0}")]
     Trace(#[from] WriteFault),
-    /// The trace wasn't audited.
-    #[error("{0}")]
-    Audit(#[from] AuditFault),
     /// There is no memory left.
     #[error("out of memory")]
     OutOfMemory(#[from] AllocError),
@@ -39,9 +35,6 @@ pub enum Fault {
     /// The first block of the copy that isn't the text's.
     #[error("block {0} differs")]
     Differs(usize),
-    /// The audit's report isn't text.
-    #[error("the report isn't text")]
-    Report,
     /// A line wasn't printed.
     #[error("{0}")]
     Io(#[from] io::Error),

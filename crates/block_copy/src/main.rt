@@ -1,8 +1,8 @@
 //! Copies a text block by block through a transport that threads share. Two drivers submit a CCB for each block, two lanes of
-//! one adapter send and serve them, and each tenth block is busy once. What all of them did is gathered into one history, and
-//! audited.
+//! one adapter send and serve them, and each tenth block is busy once. What all of them did is gathered into one history.
 //!
-//! What is printed is the same however the threads take turns.
+//! What is printed is the same however the threads take turns. With `--trace` as the first word the trace of what they did is
+//! printed instead.
 #![tactic(auto)]
 
 ghost use Rattle.std.specs.Prelude.{◌≡◌};
@@ -10,17 +10,16 @@ ghost use Rattle.std.specs.Prelude.{◌≡◌};
 use crate::blocks::{BLOCKS, Blocks, SIZE};
 use crate::crew::Crew;
 use crate::fault::Fault;
-use audit_report::run_audit;
 use cam_event::History;
 use cam_types::{Config, ConfigError, Device, Limits, Watched};
 use std::alloc::Global;
-use std::io;
 use std::marker::Brand;
 use std::process::ExitCode;
 use std::rt::Runtime;
 use std::sync::Wait;
 use std::sync::ledger::{Blank, Ledger};
 use std::thread::Threads;
+use std::{env, io};
 use trace_file::write_trace;
 use xpt_lock::SharedXpt;
 use xpt_state::Xpt;
@@ -46,8 +45,18 @@ fn run<R: Runtime + AllocGlobal + Threads + Wait + Sync>(rt: &R) -> Result<(), F
     if let Some(number) = blocks.first_difference(rt) {
         return Err(Fault::Differs(number));
     }
+    let words: Vec<String> = env::args(rt)?.collect(alloc)?;
+    if words.get(1).is_some_and(|word| word.as_str() == "--trace") {
+        write_trace(alloc, &history, &mut Watched::new(io::writer(rt)))?;
+        return Ok(());
+    }
     println!(rt; "{BLOCKS} blocks copied, {} bytes the same", BLOCKS * SIZE)?;
-    audit(rt, alloc, &history)
+    println!(rt;
+        "commands {}\nstays {}",
+        history.commands(),
+        history.stay_count()
+    )?;
+    Ok(())
 }
 
 // Copies all blocks, and gives the one history of what the threads did. `L` names the ledger by which the transport counts its
@@ -83,24 +92,4 @@ fn one_disk(alloc: Global) -> Result<Config, ConfigError> {
         openings: 16,
     };
     Config::new(alloc, &[16], &[disk], &[0, 0])
-}
-
-// Audits the history by its trace, and prints how many commands and stays the audit found.
-fn audit<R: Runtime>(rt: &R, alloc: Global, history: &History) -> Result<(), Fault> {
-    let mut trace = Vec::new(alloc);
-    write_trace(alloc, history, &mut Watched::new(&mut trace))?;
-    let mut report = Vec::new(alloc);
-    run_audit(
-        alloc,
-        &mut Watched::new(trace.as_slice()),
-        &mut Watched::new(&mut report),
-        true,
-    )?;
-    let Ok(report) = str::from_utf8(report.as_slice()) else {
-        return Err(Fault::Report);
-    };
-    for line in report.lines().skip(1).take(2) {
-        println!(rt; "{line}")?;
-    }
-    Ok(())
 }

@@ -1,9 +1,6 @@
-//! What faults say of themselves.
+//! What faults say of themselves that the program never prints.
 
-use audit_report::AuditFault;
-use event_rules::{Event, Refusal, Stay};
-use report_text::ReportFault;
-use round_net::{NetFault, PriceRange};
+use event_rules::{Event, Refusal};
 use sim_worker::LiveFault;
 use std::alloc::Global;
 use std::fmt::Display;
@@ -16,8 +13,6 @@ const RECEIPT: Receipt = Receipt {
     event: Event::Tick,
     reply: Reply::Round(2),
 };
-
-const STAY: Stay = Stay { ccb: 3, attempt: 1 };
 
 // Whether the fault says this of itself.
 fn says<T: Display + Drop>(alloc: Global, fault: T, due: &str) -> Result<bool, Fail> {
@@ -50,33 +45,9 @@ fn live_faults_say(alloc: Global) -> Result<bool, Fail> {
     )
 }
 
-// Whether those of nets, reports and audits do.
-fn audit_faults_say(alloc: Global) -> Result<bool, Fail> {
-    Ok(
-        says(alloc, PriceRange, "price range")?
-            && says(alloc, NetFault::Unsent(STAY), "unsent ccb 3 try 1")?
-            && says(alloc, NetFault::OutOfMemory, "out of memory")?
-            && says(alloc, ReportFault::BadLine(4), "report line 4: bad line")?
-            && says(
-                alloc,
-                ReportFault::PriceRange(4),
-                "report line 4: price range",
-            )?
-            && says(
-                alloc,
-                ReportFault::WrongStays(4),
-                "report line 4: wrong stay",
-            )?
-            && says(alloc, AuditFault::Unsent(STAY), "unsent ccb 3 try 1")?
-            && says(alloc, AuditFault::WriteFailed, "write failed")?
-            && says(alloc, AuditFault::OutOfMemory, "out of memory")?,
-    )
-}
-
 #[test]
 fn faults_say_what_is_wrong(rt: HostRuntime) -> Result<(), Fail> {
     assert!(rt; shared_faults_say(rt.alloc())?);
     assert!(rt; live_faults_say(rt.alloc())?);
-    assert!(rt; audit_faults_say(rt.alloc())?);
     Ok(())
 }

@@ -1,24 +1,12 @@
-//! Texts of traces, and of a script and a report.
-
-/// One command, sent in the round of its submit.
-pub(crate) const ONE_COMMAND: &str =
-    "camtrace1,a,b,c,d,e,f,g\nsim,1,,,,,,\ndev,0,1,0,1,,,\nlane,0,,,,,,\nsubmit,0,0,1152,4,none,,\nsend,0,0,,,,,\ndone,0,01,00,,,,\n";
+//! Texts of traces and of a report.
 
 /// Two devices, of which one is frozen for three rounds.
 pub(crate) const FROZEN: &str =
     "camtrace1,a,b,c,d,e,f,g\nsim,1,,,,,,\ndev,0,1,0,1,,,\ndev,0,2,0,1,,,\nlane,0,,,,,,\nsubmit,0,0,896,4,none,,\nsubmit,0,1,1152,4,none,,\nsend,0,0,,,,,\ndone,0,01,00,,,,\ntick,,,,,,,\nfreeze,1,1,,,,,\ntick,,,,,,,\ntick,,,,,,,\ntick,,,,,,,\nrelease,1,1,,,,,\nsend,0,1,,,,,\ndone,1,01,00,,,,\n";
 
-/// Two adapters: on one the trace above, on the other an urgent command that comes after one that isn't, in common rounds.
-pub(crate) const TWO_ADAPTERS: &str =
-    "camtrace1,a,b,c,d,e,f,g\nsim,1,,,,,,\nsim,1,,,,,,\ndev,0,1,0,1,,,\ndev,0,2,0,1,,,\ndev,1,1,0,1,,,\nlane,0,,,,,,\nlane,1,,,,,,\nsubmit,0,0,896,4,none,,\nsubmit,0,1,1152,4,none,,\nsubmit,0,2,1152,4,none,,\nsend,0,0,,,,,\ndone,0,01,00,,,,\nsend,1,2,,,,,\ndone,2,01,00,,,,\nsubmit,0,2,128,4,none,,\ntick,,,,,,,\nfreeze,1,1,,,,,\nsend,1,3,,,,,\ndone,3,01,00,,,,\ntick,,,,,,,\ntick,,,,,,,\ntick,,,,,,,\nrelease,1,1,,,,,\nsend,0,1,,,,,\ndone,1,01,00,,,,\n";
-
 /// Two adapters on a link with one opening: a command goes to the one, and an urgent one for the other comes after it.
 pub(crate) const NARROW_LINK: &str =
     "camtrace3,a,b,c,d,e,f,g\nweight,255,16,,,,,\nweight,511,8,,,,,\nweight,767,4,,,,,\nweight,1023,2,,,,,\nweight,1279,1,,,,,\nlink,1,,,,,,\nsim,1,0,,,,,\nsim,1,0,,,,,\ndev,0,1,0,1,,,\ndev,1,1,0,1,,,\nlane,0,,,,,,\nlane,1,,,,,,\nsubmit,0,0,1152,4,none,,\nsend,0,0,,,,,\ndone,0,01,00,,,,\nsubmit,1,1,128,4,none,,\ntick,,,,,,,\nsend,1,1,,,,,\ndone,1,01,00,,,,\n";
-
-/// A script of one command.
-pub(crate) const SCRIPT: &str =
-    "camscript1,a,b,c,d,e,f,g\nsim,1,,,,,,\ndev,0,1,0,1,,,\nlane,0,,,,,,\nsubmit,0,0:1:0,1152,4,none,,\n";
 
 /// A report on the trace with two devices.
 pub(crate) const REPORT: &str =

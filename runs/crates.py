@@ -51,6 +51,17 @@ def newest(names):
     return max(os.stat(path).st_mtime_ns for path in paths)
 
 
+def program_of(name, root=top):
+    return os.path.join(root, "crates", name, "out", name)
+
+
+def is_old(name):
+    """Whether a program is missing, or older than a source that it is made of. What a library states is looked up later."""
+    if not is_program(name) or not os.access(program_of(name), os.X_OK):
+        return True
+    return newest([name, *below(name)]) > os.stat(program_of(name)).st_mtime_ns
+
+
 @functools.cache
 def kit():
     """The folder of the kit."""

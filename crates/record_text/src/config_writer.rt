@@ -11,15 +11,11 @@ use cam_types::{Adapter, Device, WeightRow};
 use csv::Writer;
 use itoa::Buffer;
 use std::alloc::AllocError;
-use std::io::Write;
 
 /// Writes each row of the table of weights.
-pub fn write_weights<W: Write + Drop>(
-    writer: &mut Writer<W>,
-    weights: &[WeightRow],
-) -> Result<(), AllocError>
+pub fn write_weights(writer: &mut Writer<Vec<u8>>, weights: &[WeightRow]) -> Result<(), AllocError>
     requires { IsBetween writer.old }
-    ensures { OnOk result (Wrote W.contents writer.old writer.new (map weight_row weights.now)) }
+    ensures { OnOk result (Wrote writer.old writer.new (map weight_row weights.now)) }
 {
     for row in weights {
         write_two(writer, b"weight", row.last, row.weight)?;
@@ -28,9 +24,9 @@ pub fn write_weights<W: Write + Drop>(
 }
 
 /// Writes a row for each link.
-pub fn write_links<W: Write + Drop>(writer: &mut Writer<W>, links: &[u32]) -> Result<(), AllocError>
+pub fn write_links(writer: &mut Writer<Vec<u8>>, links: &[u32]) -> Result<(), AllocError>
     requires { IsBetween writer.old }
-    ensures { OnOk result (Wrote W.contents writer.old writer.new (map link_row links.now)) }
+    ensures { OnOk result (Wrote writer.old writer.new (map link_row links.now)) }
 {
     for openings in links {
         write_one(writer, b"link", *openings)?;
@@ -39,12 +35,9 @@ pub fn write_links<W: Write + Drop>(writer: &mut Writer<W>, links: &[u32]) -> Re
 }
 
 /// Writes a row for each adapter.
-pub fn write_adapters<W: Write + Drop>(
-    writer: &mut Writer<W>,
-    adapters: &[Adapter],
-) -> Result<(), AllocError>
+pub fn write_adapters(writer: &mut Writer<Vec<u8>>, adapters: &[Adapter]) -> Result<(), AllocError>
     requires { IsBetween writer.old }
-    ensures { OnOk result (Wrote W.contents writer.old writer.new (map adapter_row adapters.now)) }
+    ensures { OnOk result (Wrote writer.old writer.new (map adapter_row adapters.now)) }
 {
     for adapter in adapters {
         write_adapter(writer, *adapter)?;
@@ -52,12 +45,9 @@ pub fn write_adapters<W: Write + Drop>(
     Ok(())
 }
 
-fn write_adapter<W: Write + Drop>(
-    writer: &mut Writer<W>,
-    adapter: Adapter,
-) -> Result<(), AllocError>
+fn write_adapter(writer: &mut Writer<Vec<u8>>, adapter: Adapter) -> Result<(), AllocError>
     requires { IsBetween writer.old }
-    ensures { OnOk result (Wrote W.contents writer.old writer.new (adapter_row adapter ∷ [])) }
+    ensures { OnOk result (Wrote writer.old writer.new (adapter_row adapter ∷ [])) }
 {
     match adapter.link {
         None => write_one(writer, b"sim", adapter.openings),
@@ -66,12 +56,9 @@ fn write_adapter<W: Write + Drop>(
 }
 
 /// Writes a row for each device.
-pub fn write_devices<W: Write + Drop>(
-    writer: &mut Writer<W>,
-    devices: &[Device],
-) -> Result<(), AllocError>
+pub fn write_devices(writer: &mut Writer<Vec<u8>>, devices: &[Device]) -> Result<(), AllocError>
     requires { IsBetween writer.old }
-    ensures rows { OnOk result (Wrote W.contents writer.old writer.new (map device_row devices.now)) }
+    ensures rows { OnOk result (Wrote writer.old writer.new (map device_row devices.now)) }
     ensures fits { OnOk result (AllByRecursion (λ (d : Device). d.target ≤ 65535) devices.now) }
 {
     for device in devices {
@@ -80,9 +67,9 @@ pub fn write_devices<W: Write + Drop>(
     Ok(())
 }
 
-fn write_device<W: Write + Drop>(writer: &mut Writer<W>, device: Device) -> Result<(), AllocError>
+fn write_device(writer: &mut Writer<Vec<u8>>, device: Device) -> Result<(), AllocError>
     requires { IsBetween writer.old }
-    ensures rows { OnOk result (Wrote W.contents writer.old writer.new (device_row device ∷ [])) }
+    ensures rows { OnOk result (Wrote writer.old writer.new (device_row device ∷ [])) }
     ensures fits { device.target ≤ 65535 }
 {
     let mut bus = Buffer::new();

@@ -7,15 +7,11 @@ ghost use Rattle.record_text.specs.Writing.{IsBetween, Wrote};
 use csv::Writer;
 use itoa::Buffer;
 use std::alloc::AllocError;
-use std::io::Write;
 
 /// Writes a record of these fields. Records of one length, into memory, have no error but want of it.
-pub fn write_row<W: Write + Drop>(
-    writer: &mut Writer<W>,
-    fields: &[&[u8]],
-) -> Result<(), AllocError>
+pub fn write_row(writer: &mut Writer<Vec<u8>>, fields: &[&[u8]]) -> Result<(), AllocError>
     requires { IsBetween writer.old }
-    ensures { OnOk result (Wrote W.contents writer.old writer.new (map (λ f. f.now) fields.now ∷ [])) }
+    ensures { OnOk result (Wrote writer.old writer.new (map (λ f. f.now) fields.now ∷ [])) }
 {
     let Ok(()) = writer.write_fields(fields) else {
         return Err(AllocError);
@@ -24,21 +20,17 @@ pub fn write_row<W: Write + Drop>(
 }
 
 /// Writes a record of a word alone.
-pub fn write_word<W: Write + Drop>(writer: &mut Writer<W>, word: &[u8]) -> Result<(), AllocError>
+pub fn write_word(writer: &mut Writer<Vec<u8>>, word: &[u8]) -> Result<(), AllocError>
     requires { IsBetween writer.old }
-    ensures { OnOk result (Wrote W.contents writer.old writer.new (padded (word.now ∷ []) ∷ [])) }
+    ensures { OnOk result (Wrote writer.old writer.new (padded (word.now ∷ []) ∷ [])) }
 {
     write_row(writer, &[word, b"", b"", b"", b"", b"", b"", b""])
 }
 
 /// Writes a record of a word and a number.
-pub fn write_one<W: Write + Drop>(
-    writer: &mut Writer<W>,
-    word: &[u8],
-    number: u32,
-) -> Result<(), AllocError>
+pub fn write_one(writer: &mut Writer<Vec<u8>>, word: &[u8], number: u32) -> Result<(), AllocError>
     requires { IsBetween writer.old }
-    ensures { OnOk result (Wrote W.contents writer.old writer.new (padded (word.now ∷ decimal number ∷ []) ∷ [])) }
+    ensures { OnOk result (Wrote writer.old writer.new (padded (word.now ∷ decimal number ∷ []) ∷ [])) }
 {
     let mut digits = Buffer::new();
     let number = digits.format(number).as_bytes();
@@ -46,14 +38,14 @@ pub fn write_one<W: Write + Drop>(
 }
 
 /// Writes a record of a word and two numbers.
-pub fn write_two<W: Write + Drop>(
-    writer: &mut Writer<W>,
+pub fn write_two(
+    writer: &mut Writer<Vec<u8>>,
     word: &[u8],
     first: u32,
     second: u32,
 ) -> Result<(), AllocError>
     requires { IsBetween writer.old }
-    ensures { OnOk result (Wrote W.contents writer.old writer.new (padded (word.now ∷ decimal first ∷ decimal second ∷ []) ∷ [])) }
+    ensures { OnOk result (Wrote writer.old writer.new (padded (word.now ∷ decimal first ∷ decimal second ∷ []) ∷ [])) }
 {
     let mut one = Buffer::new();
     let mut other = Buffer::new();
@@ -63,15 +55,15 @@ pub fn write_two<W: Write + Drop>(
 }
 
 /// Writes a record of a word and three numbers.
-pub fn write_three<W: Write + Drop>(
-    writer: &mut Writer<W>,
+pub fn write_three(
+    writer: &mut Writer<Vec<u8>>,
     word: &[u8],
     first: u32,
     second: u32,
     third: u32,
 ) -> Result<(), AllocError>
     requires { IsBetween writer.old }
-    ensures { OnOk result (Wrote W.contents writer.old writer.new (padded (word.now ∷ decimal first ∷ decimal second ∷ decimal third ∷ []) ∷ [])) }
+    ensures { OnOk result (Wrote writer.old writer.new (padded (word.now ∷ decimal first ∷ decimal second ∷ decimal third ∷ []) ∷ [])) }
 {
     let mut one = Buffer::new();
     let mut two = Buffer::new();

@@ -78,12 +78,9 @@ pub fn recording_bytes(alloc: Global, recording: &Recording) -> Result<Vec<u8>, 
 }
 
 // Writes the records of the unit, the rounds and the configuration.
-fn write_head<W: Write + Drop>(
-    writer: &mut Writer<W>,
-    recording: &Recording,
-) -> Result<(), AllocError>
+fn write_head(writer: &mut Writer<Vec<u8>>, recording: &Recording) -> Result<(), AllocError>
     requires { IsBetween writer.old }
-    ensures rows { OnOk result (Wrote W.contents writer.old writer.new (head_rows recording.now)) }
+    ensures rows { OnOk result (Wrote writer.old writer.new (head_rows recording.now)) }
     ensures fits { OnOk result (AllByRecursion (λ (d : Device). d.target ≤ 65535) recording.now.config.devices) }
     ensures unit { OnOk result (IfSome recording.now.unit (λ (u : Span). u.count ≤ 4294967295)) }
 {

@@ -19,15 +19,11 @@ use csv::Writer;
 use itoa::Buffer;
 use record_text::write_row;
 use std::alloc::AllocError;
-use std::io::Write;
 
 /// Writes how long a round is, if that is known.
-pub(crate) fn write_unit<W: Write + Drop>(
-    writer: &mut Writer<W>,
-    unit: Option<Span>,
-) -> Result<(), AllocError>
+pub(crate) fn write_unit(writer: &mut Writer<Vec<u8>>, unit: Option<Span>) -> Result<(), AllocError>
     requires { IsBetween writer.old }
-    ensures rows { OnOk result (Wrote W.contents writer.old writer.new (unit_rows unit)) }
+    ensures rows { OnOk result (Wrote writer.old writer.new (unit_rows unit)) }
     ensures fits { IfSome unit (λ (u : Span). u.count ≤ 4294967295) }
 {
     match unit {
@@ -36,9 +32,9 @@ pub(crate) fn write_unit<W: Write + Drop>(
     }
 }
 
-fn write_span<W: Write + Drop>(writer: &mut Writer<W>, unit: Span) -> Result<(), AllocError>
+fn write_span(writer: &mut Writer<Vec<u8>>, unit: Span) -> Result<(), AllocError>
     requires { IsBetween writer.old }
-    ensures rows { OnOk result (Wrote W.contents writer.old writer.new (unit_row unit ∷ [])) }
+    ensures rows { OnOk result (Wrote writer.old writer.new (unit_row unit ∷ [])) }
     ensures fits { unit.count ≤ 4294967295 }
 {
     let mut digits = Buffer::new();
@@ -59,12 +55,9 @@ fn time_text(unit: TimeUnit) -> &'static [u8]
 }
 
 /// Writes a record for each name.
-pub(crate) fn write_names<W: Write + Drop>(
-    writer: &mut Writer<W>,
-    names: &[Name],
-) -> Result<(), AllocError>
+pub(crate) fn write_names(writer: &mut Writer<Vec<u8>>, names: &[Name]) -> Result<(), AllocError>
     requires { IsBetween writer.old }
-    ensures { OnOk result (Wrote W.contents writer.old writer.new (map name_row names.now)) }
+    ensures { OnOk result (Wrote writer.old writer.new (map name_row names.now)) }
 {
     for name in names {
         write_name(writer, name)?;
@@ -72,22 +65,22 @@ pub(crate) fn write_names<W: Write + Drop>(
     Ok(())
 }
 
-fn write_name<W: Write + Drop>(writer: &mut Writer<W>, name: &Name) -> Result<(), AllocError>
+fn write_name(writer: &mut Writer<Vec<u8>>, name: &Name) -> Result<(), AllocError>
     requires { IsBetween writer.old }
-    ensures { OnOk result (Wrote W.contents writer.old writer.new (name_row name.now ∷ [])) }
+    ensures { OnOk result (Wrote writer.old writer.new (name_row name.now ∷ [])) }
 {
     let kind = named_text(name.kind());
     write_named(writer, kind, name.number(), name.text().as_bytes())
 }
 
-fn write_named<'a, W: Write + Drop>(
-    writer: &mut Writer<W>,
+fn write_named<'a>(
+    writer: &mut Writer<Vec<u8>>,
     kind: &'a [u8],
     number: u32,
     text: &'a [u8],
 ) -> Result<(), AllocError>
     requires { IsBetween writer.old }
-    ensures { OnOk result (Wrote W.contents writer.old writer.new (padded (codes "name" ∷ kind.now ∷ decimal number ∷ text.now ∷ []) ∷ [])) }
+    ensures { OnOk result (Wrote writer.old writer.new (padded (codes "name" ∷ kind.now ∷ decimal number ∷ text.now ∷ []) ∷ [])) }
 {
     let mut digits = Buffer::new();
     let number = digits.format(number).as_bytes();
@@ -106,12 +99,9 @@ fn named_text(kind: NameKind) -> &'static [u8]
 }
 
 /// Writes a record for each cap.
-pub(crate) fn write_caps<W: Write + Drop>(
-    writer: &mut Writer<W>,
-    caps: &[Cap],
-) -> Result<(), AllocError>
+pub(crate) fn write_caps(writer: &mut Writer<Vec<u8>>, caps: &[Cap]) -> Result<(), AllocError>
     requires { IsBetween writer.old }
-    ensures { OnOk result (Wrote W.contents writer.old writer.new (map cap_row caps.now)) }
+    ensures { OnOk result (Wrote writer.old writer.new (map cap_row caps.now)) }
 {
     for cap in caps {
         write_cap(writer, *cap)?;
@@ -119,9 +109,9 @@ pub(crate) fn write_caps<W: Write + Drop>(
     Ok(())
 }
 
-fn write_cap<W: Write + Drop>(writer: &mut Writer<W>, cap: Cap) -> Result<(), AllocError>
+fn write_cap(writer: &mut Writer<Vec<u8>>, cap: Cap) -> Result<(), AllocError>
     requires { IsBetween writer.old }
-    ensures { OnOk result (Wrote W.contents writer.old writer.new (cap_row cap ∷ [])) }
+    ensures { OnOk result (Wrote writer.old writer.new (cap_row cap ∷ [])) }
 {
     let mut number = Buffer::new();
     let mut first = Buffer::new();
@@ -146,12 +136,12 @@ fn part_text(kind: PartKind) -> &'static [u8]
 }
 
 /// Writes a record for each request.
-pub(crate) fn write_requests<W: Write + Drop>(
-    writer: &mut Writer<W>,
+pub(crate) fn write_requests(
+    writer: &mut Writer<Vec<u8>>,
     requests: &[Request],
 ) -> Result<(), AllocError>
     requires { IsBetween writer.old }
-    ensures rows { OnOk result (Wrote W.contents writer.old writer.new (map request_row requests.now)) }
+    ensures rows { OnOk result (Wrote writer.old writer.new (map request_row requests.now)) }
     ensures fits { OnOk result (AllByRecursion FitsFields requests.now) }
 {
     for request in requests {
@@ -160,12 +150,9 @@ pub(crate) fn write_requests<W: Write + Drop>(
     Ok(())
 }
 
-fn write_request<W: Write + Drop>(
-    writer: &mut Writer<W>,
-    request: Request,
-) -> Result<(), AllocError>
+fn write_request(writer: &mut Writer<Vec<u8>>, request: Request) -> Result<(), AllocError>
     requires { IsBetween writer.old }
-    ensures rows { OnOk result (Wrote W.contents writer.old writer.new (request_row request ∷ [])) }
+    ensures rows { OnOk result (Wrote writer.old writer.new (request_row request ∷ [])) }
     ensures fits { FitsFields request }
 {
     let mut driver = Buffer::new();

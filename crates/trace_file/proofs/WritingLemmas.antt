@@ -1,12 +1,11 @@
 -- Records that are written one after the other.
-use Rattle.std.proofs.Common.{◌≡◌, ◌<◌, ◌+◌, ◌*◌, ◌/◌, ◌%◌, ℕ, List, [], ◌∷◌, ◌++◌, length, take, map, get_or, set, refl, sym, ap, ◌∙◌, subst, arith, append_assoc, length-set, Fits, w8, suc, Option}
+use Rattle.std.proofs.Common.{◌≡◌, ◌<◌, ◌+◌, ◌*◌, ◌/◌, ◌%◌, ℕ, List, [], ◌∷◌, ◌++◌, length, take, map, get_or, set, refl, sym, ap, ◌∙◌, subst, arith, append_assoc, length-set, Fits, w8, suc}
 use Rattle.std.specs.Char.{digit_char}
 use Rattle.std.specs.List.{AllByRecursion}
 use Rattle.std.proofs.lemmas.List.{map-append, take_more, take_more_set}
 use Rattle.std.proofs.lemmas.List.Elements.{All-from_recursion}
-use Rattle.csv.specs.declared.writer.Writer.{Writer}
 use Rattle.trace_file.specs.Records.{hex}
-use Rattle.record_text.specs.Writing.{Wrote}
+use Rattle.record_text.specs.Writing.{TextWriter, Wrote}
 use Rattle.trace_file.specs.Script.{FitsRow}
 use Rattle.trace_file.specs.ScriptRows.{script_row, ScriptRow}
 use Rattle.trace_file.specs.ScriptWriting.{numbered}
@@ -40,13 +39,13 @@ hex_more text bytes i a b h k ea eb e =
 -- ---- the rows of a script
 
 -- the record of one item's row more
-pub wrote_row : {W X : Type 0} (contents : W → Option (List ℕ)) (a b c : Writer W) (row : X → ScriptRow) (items : List X) (i : ℕ) (x : X) → i < length items → get_or items i x ≡ x
-    → Wrote contents a b (map script_row (map row (take i items))) → Wrote contents b c (script_row (row x) ∷ []) → Wrote contents a c (map script_row (map row (take (i + 1) items)))
-wrote_row contents a b c row items i x h is one other =
+pub wrote_row : {X : Type 0} (a b c : TextWriter) (row : X → ScriptRow) (items : List X) (i : ℕ) (x : X) → i < length items → get_or items i x ≡ x
+    → Wrote a b (map script_row (map row (take i items))) → Wrote b c (script_row (row x) ∷ []) → Wrote a c (map script_row (map row (take (i + 1) items)))
+wrote_row a b c row items i x h is one other =
     let items_more : map row (take (i + 1) items) ≡ map row (take i items) ++ row x ∷ [] =
     ap (map row) (take_more items i x h ∙ ap (λ (y : _). take i items ++ y ∷ []) is) ∙ map-append row (take i items) (x ∷ []) in
     let more = ap (map script_row) items_more ∙ map-append script_row (map row (take i items)) (row x ∷ []) in
-    subst (Wrote contents a c) (sym more) (wrote_both contents a b c (map script_row (map row (take i items))) (script_row (row x) ∷ []) one other)
+    subst (Wrote a c) (sym more) (wrote_both a b c (map script_row (map row (take i items))) (script_row (row x) ∷ []) one other)
 
 -- and its numbers fit
 pub fits_row : {X : Type 0} (row : X → ScriptRow) (items : List X) (i : ℕ) (x : X) → i < length items → get_or items i x ≡ x → AllByRecursion FitsRow (map row (take i items)) → FitsRow (row x)
@@ -62,12 +61,12 @@ one_list row lists i here h is =
     numbered_more row 0 lists i h ∙ ap (λ (k : ℕ). numbered row 0 (take i lists) ++ map (row k) (get_or lists i [])) same ∙ ap (λ (l : List _). numbered row 0 (take i lists) ++ map (row i) l) is
 
 -- the records of one list's rows more
-pub wrote_list : {W X : Type 0} (contents : W → Option (List ℕ)) (a b c : Writer W) (row : ℕ → X → ScriptRow) (lists : List (List X)) (i : ℕ) (here : List X) → i < length lists → get_or lists i [] ≡ here
-    → Wrote contents a b (map script_row (numbered row 0 (take i lists))) → Wrote contents b c (map script_row (map (row i) here)) → Wrote contents a c (map script_row (numbered row 0 (take (i + 1) lists)))
-wrote_list contents a b c row lists i here h is one other =
+pub wrote_list : {X : Type 0} (a b c : TextWriter) (row : ℕ → X → ScriptRow) (lists : List (List X)) (i : ℕ) (here : List X) → i < length lists → get_or lists i [] ≡ here
+    → Wrote a b (map script_row (numbered row 0 (take i lists))) → Wrote b c (map script_row (map (row i) here)) → Wrote a c (map script_row (numbered row 0 (take (i + 1) lists)))
+wrote_list a b c row lists i here h is one other =
     let rows = one_list row lists i here h is in
     let more = ap (map script_row) rows ∙ map-append script_row (numbered row 0 (take i lists)) (map (row i) here) in
-    subst (Wrote contents a c) (sym more) (wrote_both contents a b c (map script_row (numbered row 0 (take i lists))) (map script_row (map (row i) here)) one other)
+    subst (Wrote a c) (sym more) (wrote_both a b c (map script_row (numbered row 0 (take i lists))) (map script_row (map (row i) here)) one other)
 
 -- and their numbers fit
 pub fits_list : {X : Type 0} (row : ℕ → X → ScriptRow) (lists : List (List X)) (i : ℕ) (here : List X) → i < length lists → get_or lists i [] ≡ here → AllByRecursion FitsRow (numbered row 0 (take i lists)) → AllByRecursion FitsRow (map (row i) here)

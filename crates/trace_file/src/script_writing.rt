@@ -26,15 +26,11 @@ use event_rules::Event;
 use itoa::Buffer;
 use record_text::{write_row, write_three, write_two};
 use std::alloc::{AllocError, Global};
-use std::io::Write;
 
 /// Writes the record of the limits.
-pub(crate) fn write_limits<W: Write + Drop>(
-    writer: &mut Writer<W>,
-    limits: Limits,
-) -> Result<(), AllocError>
+pub(crate) fn write_limits(writer: &mut Writer<Vec<u8>>, limits: Limits) -> Result<(), AllocError>
     requires { IsBetween writer.old }
-    ensures rows { OnOk result (Wrote W.contents writer.old writer.new (limits_row limits ∷ [])) }
+    ensures rows { OnOk result (Wrote writer.old writer.new (limits_row limits ∷ [])) }
     ensures within { are_within limits ≡ true }
 {
     let mut one = Buffer::new();
@@ -52,16 +48,16 @@ pub(crate) fn write_limits<W: Write + Drop>(
 }
 
 /// Writes a record for each step of each of the 8 drivers, driver by driver.
-pub(crate) fn write_drivers<W: Write + Drop>(
+pub(crate) fn write_drivers(
     alloc: Global,
-    writer: &mut Writer<W>,
+    writer: &mut Writer<Vec<u8>>,
     config: &Config,
     drivers: &[Vec<Step>],
 ) -> Result<(), AllocError>
     requires between { IsBetween writer.old }
     requires eight { length drivers.now ≡ 8 }
     requires ruled { (driver : ℕ) → AllByRecursion (λ one. is_ruled config.now driver one ≡ true) (get_or (map (λ l. l.items) drivers.now) driver []) }
-    ensures rows { OnOk result (Wrote W.contents writer.old writer.new (map script_row (numbered (step_row config.now) 0 (map (λ l. l.items) drivers.now)))) }
+    ensures rows { OnOk result (Wrote writer.old writer.new (map script_row (numbered (step_row config.now) 0 (map (λ l. l.items) drivers.now)))) }
     ensures fits { OnOk result (AllByRecursion FitsRow (numbered (step_row config.now) 0 (map (λ l. l.items) drivers.now))) }
 {
     for driver in 0..DRIVERS {
@@ -71,9 +67,9 @@ pub(crate) fn write_drivers<W: Write + Drop>(
 }
 
 // Writes a record for each step of a driver.
-fn write_steps<W: Write + Drop>(
+fn write_steps(
     alloc: Global,
-    writer: &mut Writer<W>,
+    writer: &mut Writer<Vec<u8>>,
     config: &Config,
     driver: u8,
     steps: &[Step],
@@ -81,7 +77,7 @@ fn write_steps<W: Write + Drop>(
     requires between { IsBetween writer.old }
     requires driver { driver ≤ 7 }
     requires ruled { AllByRecursion (λ one. is_ruled config.now driver one ≡ true) steps.now }
-    ensures rows { OnOk result (Wrote W.contents writer.old writer.new (map script_row (map (step_row config.now driver) steps.now))) }
+    ensures rows { OnOk result (Wrote writer.old writer.new (map script_row (map (step_row config.now driver) steps.now))) }
     ensures fits { OnOk result (AllByRecursion FitsRow (map (step_row config.now driver) steps.now)) }
 {
     for step in steps {
@@ -92,14 +88,14 @@ fn write_steps<W: Write + Drop>(
 }
 
 /// Writes a record for each answer of each lane, lane by lane.
-pub(crate) fn write_answers<W: Write + Drop>(
+pub(crate) fn write_answers(
     alloc: Global,
-    writer: &mut Writer<W>,
+    writer: &mut Writer<Vec<u8>>,
     answers: &[Vec<Outcome>],
 ) -> Result<(), AllocError>
     requires between { IsBetween writer.old }
     requires few { length answers.now ≤ max_number }
-    ensures rows { OnOk result (Wrote W.contents writer.old writer.new (map script_row (numbered ScriptRow.Answer 0 (map (λ l. l.items) answers.now)))) }
+    ensures rows { OnOk result (Wrote writer.old writer.new (map script_row (numbered ScriptRow.Answer 0 (map (λ l. l.items) answers.now)))) }
     ensures fits { OnOk result (AllByRecursion FitsRow (numbered ScriptRow.Answer 0 (map (λ l. l.items) answers.now))) }
 {
     for lane in 0..answers.len() {
@@ -109,14 +105,14 @@ pub(crate) fn write_answers<W: Write + Drop>(
 }
 
 // Writes a record for each answer of a lane.
-fn write_outcomes<W: Write + Drop>(
+fn write_outcomes(
     alloc: Global,
-    writer: &mut Writer<W>,
+    writer: &mut Writer<Vec<u8>>,
     lane: u32,
     outcomes: &[Outcome],
 ) -> Result<(), AllocError>
     requires { IsBetween writer.old }
-    ensures rows { OnOk result (Wrote W.contents writer.old writer.new (map script_row (map (ScriptRow.Answer lane) outcomes.now))) }
+    ensures rows { OnOk result (Wrote writer.old writer.new (map script_row (map (ScriptRow.Answer lane) outcomes.now))) }
     ensures fits { OnOk result (AllByRecursion FitsRow (map (ScriptRow.Answer lane) outcomes.now)) }
 {
     for outcome in outcomes {
@@ -189,14 +185,14 @@ fn device_path(config: &Config, device: u32) -> CamPath
 }
 
 // Writes the record of a row.
-fn write_script_row<W: Write + Drop>(
+fn write_script_row(
     alloc: Global,
-    writer: &mut Writer<W>,
+    writer: &mut Writer<Vec<u8>>,
     row: ScriptRow,
 ) -> Result<(), AllocError>
     requires between { IsBetween writer.old }
     requires driver { IsTrue (names_driver row) }
-    ensures rows { OnOk result (Wrote W.contents writer.old writer.new (script_row row ∷ [])) }
+    ensures rows { OnOk result (Wrote writer.old writer.new (script_row row ∷ [])) }
     ensures fits { FitsRow row }
 {
     match row {
@@ -235,9 +231,9 @@ fn write_script_row<W: Write + Drop>(
     }
 }
 
-fn write_submission<W: Write + Drop>(
+fn write_submission(
     alloc: Global,
-    writer: &mut Writer<W>,
+    writer: &mut Writer<Vec<u8>>,
     driver: u8,
     path: CamPath,
     priority: u32,
@@ -245,7 +241,7 @@ fn write_submission<W: Write + Drop>(
     flags: Flags,
 ) -> Result<(), AllocError>
     requires { IsBetween writer.old }
-    ensures rows { OnOk result (Wrote W.contents writer.old writer.new (script_row (ScriptRow.Submit driver path priority retries flags) ∷ [])) }
+    ensures rows { OnOk result (Wrote writer.old writer.new (script_row (ScriptRow.Submit driver path priority retries flags) ∷ [])) }
     ensures fits { Fits path }
 {
     let mut text = Vec::new(alloc);
@@ -264,16 +260,16 @@ fn write_submission<W: Write + Drop>(
 }
 
 // Writes a record of a word, a driver, a path and a number.
-fn write_by_path<W: Write + Drop>(
+fn write_by_path(
     alloc: Global,
-    writer: &mut Writer<W>,
+    writer: &mut Writer<Vec<u8>>,
     word: &[u8],
     driver: u8,
     path: CamPath,
     number: u32,
 ) -> Result<(), AllocError>
     requires { IsBetween writer.old }
-    ensures rows { OnOk result (Wrote W.contents writer.old writer.new (padded (word.now ∷ decimal driver ∷ path_spelled path ∷ decimal number ∷ []) ∷ [])) }
+    ensures rows { OnOk result (Wrote writer.old writer.new (padded (word.now ∷ decimal driver ∷ path_spelled path ∷ decimal number ∷ []) ∷ [])) }
     ensures fits { Fits path }
 {
     let mut text = Vec::new(alloc);

@@ -21,16 +21,15 @@ use record_text::{
     write_word,
 };
 use std::alloc::AllocError;
-use std::io::Write;
 
 /// Writes the records of a configuration in a version.
-pub(crate) fn write_config<W: Write + Drop>(
-    writer: &mut Writer<W>,
+pub(crate) fn write_config(
+    writer: &mut Writer<Vec<u8>>,
     version: Version,
     config: &Config,
 ) -> Result<(), AllocError>
     requires { IsBetween writer.old }
-    ensures rows { OnOk result (Wrote W.contents writer.old writer.new (weight_rows version config.now.weights ++ (map link_row config.now.links ++ (map adapter_row config.now.adapters ++ (map device_row config.now.devices ++ map lane_row config.now.lanes))))) }
+    ensures rows { OnOk result (Wrote writer.old writer.new (weight_rows version config.now.weights ++ (map link_row config.now.links ++ (map adapter_row config.now.adapters ++ (map device_row config.now.devices ++ map lane_row config.now.lanes))))) }
     ensures fits { OnOk result (AllByRecursion (λ (d : Device). d.target ≤ 65535) config.now.devices) }
     ensures kept { OnOk result (IsConfig config.now) }
 {
@@ -42,13 +41,13 @@ pub(crate) fn write_config<W: Write + Drop>(
 }
 
 // Writes a record of a word and a number for each of these numbers.
-fn write_numbers<W: Write + Drop>(
-    writer: &mut Writer<W>,
+fn write_numbers(
+    writer: &mut Writer<Vec<u8>>,
     word: &[u8],
     numbers: &[u32],
 ) -> Result<(), AllocError>
     requires { IsBetween writer.old }
-    ensures { OnOk result (Wrote W.contents writer.old writer.new (map (λ n. padded (word.now ∷ decimal n ∷ [])) numbers.now)) }
+    ensures { OnOk result (Wrote writer.old writer.new (map (λ n. padded (word.now ∷ decimal n ∷ [])) numbers.now)) }
 {
     for number in numbers {
         write_one(writer, word, *number)?;
@@ -57,13 +56,13 @@ fn write_numbers<W: Write + Drop>(
 }
 
 // Writes a record for each row of the table of weights, where this version has them.
-fn write_table<W: Write + Drop>(
-    writer: &mut Writer<W>,
+fn write_table(
+    writer: &mut Writer<Vec<u8>>,
     version: Version,
     weights: &[WeightRow],
 ) -> Result<(), AllocError>
     requires { IsBetween writer.old }
-    ensures { OnOk result (Wrote W.contents writer.old writer.new (weight_rows version weights.now)) }
+    ensures { OnOk result (Wrote writer.old writer.new (weight_rows version weights.now)) }
 {
     if version.has_table() {
         write_weights(writer, weights)
@@ -73,12 +72,9 @@ fn write_table<W: Write + Drop>(
 }
 
 /// Writes a record for each of these events.
-pub(crate) fn write_events<W: Write + Drop>(
-    writer: &mut Writer<W>,
-    events: &[Event],
-) -> Result<(), AllocError>
+pub(crate) fn write_events(writer: &mut Writer<Vec<u8>>, events: &[Event]) -> Result<(), AllocError>
     requires { IsBetween writer.old }
-    ensures rows { OnOk result (Wrote W.contents writer.old writer.new (map event_row events.now)) }
+    ensures rows { OnOk result (Wrote writer.old writer.new (map event_row events.now)) }
     ensures fits { OnOk result (AllByRecursion FitsEvent events.now) }
 {
     for event in events {
@@ -87,9 +83,9 @@ pub(crate) fn write_events<W: Write + Drop>(
     Ok(())
 }
 
-fn write_event<W: Write + Drop>(writer: &mut Writer<W>, event: Event) -> Result<(), AllocError>
+fn write_event(writer: &mut Writer<Vec<u8>>, event: Event) -> Result<(), AllocError>
     requires { IsBetween writer.old }
-    ensures rows { OnOk result (Wrote W.contents writer.old writer.new (event_row event ∷ [])) }
+    ensures rows { OnOk result (Wrote writer.old writer.new (event_row event ∷ [])) }
     ensures fits { FitsEvent event }
 {
     match event {
@@ -113,8 +109,8 @@ fn write_event<W: Write + Drop>(writer: &mut Writer<W>, event: Event) -> Result<
     }
 }
 
-fn write_submit<W: Write + Drop>(
-    writer: &mut Writer<W>,
+fn write_submit(
+    writer: &mut Writer<Vec<u8>>,
     driver: u8,
     device: u32,
     priority: u32,
@@ -122,7 +118,7 @@ fn write_submit<W: Write + Drop>(
     flags: Flags,
 ) -> Result<(), AllocError>
     requires { IsBetween writer.old }
-    ensures { OnOk result (Wrote W.contents writer.old writer.new (event_row (Event.Submit driver device priority retries flags) ∷ [])) }
+    ensures { OnOk result (Wrote writer.old writer.new (event_row (Event.Submit driver device priority retries flags) ∷ [])) }
 {
     let mut one = Buffer::new();
     let mut two = Buffer::new();
@@ -142,14 +138,14 @@ fn write_submit<W: Write + Drop>(
 }
 
 /// Writes a record of a word, a number and an outcome.
-pub(crate) fn write_outcome<W: Write + Drop>(
-    writer: &mut Writer<W>,
+pub(crate) fn write_outcome(
+    writer: &mut Writer<Vec<u8>>,
     word: &[u8],
     number: u32,
     outcome: Outcome,
 ) -> Result<(), AllocError>
     requires { IsBetween writer.old }
-    ensures rows { OnOk result (Wrote W.contents writer.old writer.new (padded (word.now ∷ decimal number ∷ hex (outcome.status ∷ []) ∷ hex (outcome.scsi ∷ []) ∷ hex outcome.sense ∷ []) ∷ [])) }
+    ensures rows { OnOk result (Wrote writer.old writer.new (padded (word.now ∷ decimal number ∷ hex (outcome.status ∷ []) ∷ hex (outcome.scsi ∷ []) ∷ hex outcome.sense ∷ []) ∷ [])) }
     ensures fits { FitsOutcome number outcome }
 {
     let mut digits = Buffer::new();

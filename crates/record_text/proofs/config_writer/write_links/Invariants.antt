@@ -4,4 +4,4 @@ use Rattle.record_text.specs.Writing.{Wrote}
 use Rattle.record_text.proofs.config_writer.write_links.Given as goal
 
 abbrev pub invariant-loop-openings : goal.invariant-loop-openings
-invariant-loop-openings g l = Wrote g.W.Write.contents l.fn.writer l.writer (map link_row (take l.openings-index l.links))
+invariant-loop-openings l = Wrote l.fn.writer l.writer (map link_row (take l.openings-index l.links))

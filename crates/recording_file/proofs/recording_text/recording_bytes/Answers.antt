@@ -20,9 +20,9 @@ returns-in-Ok-clause-text c =
     let names = rw c.names.ensures.same at c.in_ok-write_names.ensures in
     let caps = rw c.caps.ensures.same at c.in_ok-write_caps.ensures in
     let requests = rw c.requests.ensures.same at c.in_ok-write_requests.ensures.rows in
-    let items = wrote_both _ _ _ _ (map name_row r.names) _ names (wrote_both _ _ _ _ (map cap_row r.caps) (map request_row r.requests) caps requests) in
+    let items = wrote_both _ _ _ (map name_row r.names) _ names (wrote_both _ _ _ (map cap_row r.caps) (map request_row r.requests) caps requests) in
     let first = rw (c.name_text.ensures, c.completions.ensures.same) at c.in_ok-write_row.ensures in
-    let all = wrote_both _ _ _ _ (header r.completions ∷ []) _ first (wrote_both _ _ _ _ (head_rows r) _ c.in_ok-write_head.ensures.rows items) in
+    let all = wrote_both _ _ _ (header r.completions ∷ []) _ first (wrote_both _ _ _ (head_rows r) _ c.in_ok-write_head.ensures.rows items) in
     let whole = rw (head_first r) at all.text in
     let from = c.from_writer-writer.ensures in
     c.in-Ok.ensures.ok ∙ (rw (from.wtr, c.new-2.ensures.items, from.empty) at whole)

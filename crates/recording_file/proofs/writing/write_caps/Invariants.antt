@@ -4,4 +4,4 @@ use Rattle.record_text.specs.Writing.{Wrote}
 use Rattle.recording_file.proofs.writing.write_caps.Given as goal
 
 abbrev pub invariant-loop-cap : goal.invariant-loop-cap
-invariant-loop-cap g l = Wrote g.W.Write.contents l.fn.writer l.writer (map cap_row (take l.cap-index l.caps))
+invariant-loop-cap l = Wrote l.fn.writer l.writer (map cap_row (take l.cap-index l.caps))

@@ -6,5 +6,5 @@ use Rattle.record_text.specs.Writing.{Wrote}
 use Rattle.recording_file.proofs.writing.write_requests.Given as goal
 
 abbrev pub invariant-loop-request : goal.invariant-loop-request
-invariant-loop-request g l = Wrote g.W.Write.contents l.fn.writer l.writer (map request_row (take l.request-index l.requests))
+invariant-loop-request l = Wrote l.fn.writer l.writer (map request_row (take l.request-index l.requests))
     × AllByRecursion FitsFields (take l.request-index l.requests)

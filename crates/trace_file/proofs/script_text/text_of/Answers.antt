@@ -47,10 +47,10 @@ returns-in-Ok-clause-text c =
     let config = rw (c.traces.ensures, version, c.config-config.ensures) at c.in_ok-write_config.ensures.rows in
     let drivers = rw (c.config-config.ensures, c.drivers.ensures.same) at c.in_ok-write_drivers.ensures.rows in
     let answers = rw c.answers.ensures.same at c.in_ok-write_answers.ensures.rows in
-    let all = wrote_both _ _ _ _ (script_header v ∷ []) _ head
-    (wrote_both _ _ _ _ (limits_row s.limits ∷ []) _ limits
-    (wrote_both _ _ _ _ (config_rows v s.config) _ config
-    (wrote_both _ _ _ _ (map script_row (numbered (step_row s.config) 0 s.drivers)) (map script_row (numbered row.Answer 0 s.answers)) drivers answers))) in
+    let all = wrote_both _ _ _ (script_header v ∷ []) _ head
+    (wrote_both _ _ _ (limits_row s.limits ∷ []) _ limits
+    (wrote_both _ _ _ (config_rows v s.config) _ config
+    (wrote_both _ _ _ (map script_row (numbered (step_row s.config) 0 s.drivers)) (map script_row (numbered row.Answer 0 s.answers)) drivers answers))) in
     let whole = rw (in_order s) at all.text in
     let from = c.from_writer-writer.ensures in
     c.in-Ok.ensures.ok ∙ (rw (from.wtr, c.new-2.ensures.items, from.empty) at whole)

@@ -8,5 +8,5 @@ use Rattle.record_text.specs.Writing.{Wrote}
 use Rattle.trace_file.proofs.script_writing.write_answers.Given as goal
 
 abbrev pub invariant-loop-lane : goal.invariant-loop-lane
-invariant-loop-lane g l = Wrote g.W.Write.contents l.fn.writer l.writer (map script_row (numbered row.Answer 0 (take l.lane (map (λ x. x.items) l.answers))))
+invariant-loop-lane l = Wrote l.fn.writer l.writer (map script_row (numbered row.Answer 0 (take l.lane (map (λ x. x.items) l.answers))))
     × AllByRecursion FitsRow (numbered row.Answer 0 (take l.lane (map (λ x. x.items) l.answers)))

@@ -7,5 +7,5 @@ use Rattle.record_text.specs.Writing.{Wrote}
 use Rattle.trace_file.proofs.script_writing.write_outcomes.Given as goal
 
 abbrev pub invariant-loop-outcome : goal.invariant-loop-outcome
-invariant-loop-outcome g l = Wrote g.W.Write.contents l.fn.writer l.writer (map script_row (map (row.Answer l.lane) (take l.outcome-index l.outcomes)))
+invariant-loop-outcome l = Wrote l.fn.writer l.writer (map script_row (map (row.Answer l.lane) (take l.outcome-index l.outcomes)))
     × AllByRecursion FitsRow (map (row.Answer l.lane) (take l.outcome-index l.outcomes))

@@ -7,5 +7,5 @@ use Rattle.record_text.specs.Writing.{Wrote}
 use Rattle.trace_file.proofs.script_writing.write_steps.Given as goal
 
 abbrev pub invariant-loop-step : goal.invariant-loop-step
-invariant-loop-step g l = Wrote g.W.Write.contents l.fn.writer l.writer (map script_row (map (step_row l.config l.driver) (take l.step-index l.steps)))
+invariant-loop-step l = Wrote l.fn.writer l.writer (map script_row (map (step_row l.config l.driver) (take l.step-index l.steps)))
     × AllByRecursion FitsRow (map (step_row l.config l.driver) (take l.step-index l.steps))

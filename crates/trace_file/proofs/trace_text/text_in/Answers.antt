@@ -24,7 +24,7 @@ returns-in-Ok-clause-text c =
     let v = c.args.version in
     let config = rw c.config.ensures at c.in_ok-write_config.ensures.rows in
     let events = rw c.events.ensures.same at c.in_ok-write_events.ensures.rows in
-    let all = wrote_both _ _ _ _ (header v ∷ []) _ (rw c.name.ensures at c.in_ok-write_row.ensures) (wrote_both _ _ _ _ _ (map event_row past.events) config events) in
+    let all = wrote_both _ _ _ (header v ∷ []) _ (rw c.name.ensures at c.in_ok-write_row.ensures) (wrote_both _ _ _ _ (map event_row past.events) config events) in
     let whole = rw (config_first v past) at all.text in
     let from = c.from_writer-writer.ensures in
     c.in-Ok.ensures.ok ∙ (rw (from.wtr, c.new-2.ensures.items, from.empty) at whole)

@@ -6,5 +6,5 @@ use Rattle.record_text.specs.Writing.{Wrote}
 use Rattle.trace_file.proofs.writing.write_events.Given as goal
 
 abbrev pub invariant-loop-event : goal.invariant-loop-event
-invariant-loop-event g l = Wrote g.W.Write.contents l.fn.writer l.writer (map event_row (take l.event-index l.events))
+invariant-loop-event l = Wrote l.fn.writer l.writer (map event_row (take l.event-index l.events))
     × AllByRecursion FitsEvent (take l.event-index l.events)

@@ -1,4 +1,5 @@
 pub mod Timed
+pub mod Keys
 pub mod Rounds
 pub mod Spans
 pub mod Faults

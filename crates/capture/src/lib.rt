@@ -1,6 +1,7 @@
 //! The recording of a capture: requests with the times of their arrivals and starts, as what some scheduler did in rounds.
 #![tactic(auto)]
 
+pub use arrival_order::in_arrival_order;
 pub use capture::Capture;
 pub use capture_fault::{CaptureFault, MAX_IN_ROUND};
 pub use device_flight::DeviceFlight;
@@ -9,9 +10,9 @@ pub use room::Room;
 pub use shared_adapters::shared_openings;
 pub use span_bounds::{short_from, short_within, span_within};
 pub use span_time::{span_nanoseconds, span_of};
-pub use started::sort_by_arrival;
 pub use timed_request::TimedRequest;
 
+mod arrival_order;
 mod cap_rows;
 mod capture;
 mod capture_fault;

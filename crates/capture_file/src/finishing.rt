@@ -5,7 +5,7 @@ use crate::line_fault::LineFault;
 use crate::names::Names;
 use crate::options::Options;
 use crate::sizes::Sizes;
-use capture::{DeviceFlight, TimedRequest, sort_by_arrival};
+use capture::{DeviceFlight, TimedRequest, in_arrival_order};
 use std::alloc::{AllocError, Global};
 
 // The most devices that a capture has.
@@ -75,7 +75,7 @@ pub fn capture_of(
     requests.retain(|request| options.takes_time(request.arrival));
     let others = before.saturating_sub(requests.len()) as u64;
     counts.other_times = counts.other_times.saturating_add(others);
-    sort_by_arrival(&mut requests)?;
+    let mut requests = in_arrival_order(alloc, requests)?;
     let (used_devices, used_drivers) = used_numbers(
         alloc,
         devices.len(),

@@ -5,7 +5,7 @@ ghost use Rattle.capture_windows.specs.Attempts.{is_request, is_waiting, known_a
 
 use crate::attempt::{Attempt, known_at};
 use crate::time_span::TimeSpan;
-use capture::{TimedRequest, sort_by_arrival};
+use capture::{TimedRequest, in_arrival_order};
 use std::alloc::{AllocError, Global};
 
 /// The requests that were started in a window, as they are known at its end: by arrival, and of one arrival in the order given. It
@@ -17,9 +17,7 @@ pub(crate) fn requests_in(
 ) -> Result<Vec<TimedRequest>, AllocError>
     ensures { IfOk result (λ requests. requests.items ≡ requests_in span attempts.now) }
 {
-    let mut requests = started_in(alloc, attempts, span)?;
-    sort_by_arrival(&mut requests)?;
-    Ok(requests)
+    in_arrival_order(alloc, started_in(alloc, attempts, span)?)
 }
 
 // The same in the order given.

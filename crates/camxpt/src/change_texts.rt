@@ -1,8 +1,8 @@
 //! What a list of changes is called: in words, and by the options that ask for it.
 
-use changes::{Change, Resource, Widening};
 use std::alloc::{AllocError, Global};
 use wait_causes::Grouping;
+use what_if::{Change, Resource, Widening};
 use wording::{Captions, shortened};
 
 const DEVICE: &str = "device";

@@ -3,11 +3,11 @@
 use crate::change_option::ChangeOption;
 use crate::failure::Failure;
 use crate::words::{count, number_in, word_at};
-use changes::{Change, Resource, Widening};
 use clap::ArgMatches;
 use recording_file::{Name, NameKind};
 use round_net::MAX_CAP;
 use std::alloc::{AllocError, Global};
+use what_if::{Change, Resource, Widening};
 
 /// A word that asks for a row of changes, and where it stands.
 #[derive(Clone, Copy)]

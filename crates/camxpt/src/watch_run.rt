@@ -17,8 +17,8 @@ use std::alloc::{AllocError, Global};
 use std::process::ExitCode;
 use std::rt::Runtime;
 use std::{fs, io};
+use views::{Sums, TABLE_HEAD, Window, exposition, table_row, window_json};
 use wait_causes::Explanation;
-use watching::{Sums, TABLE_HEAD, Window, exposition, table_row, window_json};
 use window_recordings::CutWindow;
 
 // How long a window is where that isn't given, in nanoseconds.

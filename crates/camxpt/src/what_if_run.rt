@@ -5,7 +5,6 @@ use crate::change_words::{AskedRow, changes_of_row, names_nothing};
 use crate::failure::Failure;
 use crate::output::closed;
 use crate::progress::{CountedRows, ProgressLine};
-use changes::{Change, worth_trying};
 use orders::{Order, ordered};
 use round_net::{Net, cost};
 use std::alloc::{AllocError, Global};
@@ -13,7 +12,7 @@ use std::thread::Threads;
 use std::time::Clock;
 use views::{WhatIfRow, WhatIfTable, what_if_json, what_if_page};
 use wait_causes::{Explanation, InputKind};
-use what_if::{Costs, costs_of, is_change_of, lists_of_net, what_if};
+use what_if::{Change, Costs, costs_of, is_change_of, lists_of_net, what_if, worth_trying};
 use wording::{ByWeight, Captions, LevelWaits, items_at, level_waits, places_by};
 
 const AS_IT_WAS: &str = "as it was";

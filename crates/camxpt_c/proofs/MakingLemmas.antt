@@ -2,7 +2,7 @@
 use Rattle.std.proofs.Common.{◌≡◌, ◌≢◌, ◌⊎◌, ℤ, inl, inr, refl, sym, subst, Bool, true, false, List, ℕ, Option, None, Some, is_some, Result, Ok, Err, IfSome, IfOk, MatchOption, MatchResult}
 use Rattle.recorder.specs.Recorder.{Recorded}
 use Rattle.recorder.specs.Windows.{IsKept, IsMaking, IsOneMore}
-use Rattle.window_recordings.specs.declared.cut.Cut.{Cut}
+use Rattle.window_recordings.specs.declared.cut_window.Cut.{Cut}
 use Rattle.window_recordings.specs.declared.cut_fault.CutFault.{CutFault}
 use Rattle.window_recordings.specs.declared.cut_fault.CutFault.TheVariants.{OutOfMemory}
 use Rattle.camxpt_c.specs.Keeping.{Keeping, IsTextOf, said}

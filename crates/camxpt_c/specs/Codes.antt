@@ -9,8 +9,8 @@ use Rattle.recording_file.specs.declared.cause.RequestFault.TheVariants as cause
 use Rattle.sense_class.specs.declared.class.Class.{Class}
 use Rattle.sense_class.specs.declared.class.Class.TheVariants as classes
 use Rattle.sense_class.specs.declared.class.Why.TheVariants as failures
-use Rattle.request_notes.specs.declared.note_fault.NoteFault.{NoteFault}
-use Rattle.request_notes.specs.declared.note_fault.NoteFault.TheVariants as notes
+use Rattle.recorder.specs.declared.note_fault.NoteFault.{NoteFault}
+use Rattle.recorder.specs.declared.note_fault.NoteFault.TheVariants as notes
 use Rattle.xpt_state.specs.declared.idle.Idle.{Idle}
 use Rattle.xpt_state.specs.declared.idle.Idle.TheVariants as idles
 

@@ -2,10 +2,10 @@
 use Rattle.std.specs.Prelude.{ℕ, ◌+◌, ℤ, List, [], IfSome, Option, None, Some, MatchOption, ◌≡◌, ◌⊎◌, ◌++◌, Bool, true, false, min, length, take, drop}
 use Rattle.recording_file.specs.Recordings.{IsRecordingText}
 use Rattle.recording_file.specs.Writing.{recording_text}
-use Rattle.window_recordings.specs.declared.cut.CutWindow.{CutWindow}
+use Rattle.window_recordings.specs.declared.cut_window.CutWindow.{CutWindow}
 use Rattle.recorder.specs.Recorder.{Recorded, nothing_noted}
-use Rattle.request_notes.specs.Notes.{arrived, change, done_at, started_at, withdrawn, with_arrival, with_change}
-use Rattle.request_notes.specs.declared.note_fault.NoteFault.{NoteFault}
+use Rattle.recorder.specs.Notes.{arrived, change, done_at, started_at, withdrawn, with_arrival, with_change}
+use Rattle.recorder.specs.declared.note_fault.NoteFault.{NoteFault}
 use Rattle.camxpt_c.specs.Codes.{note_code}
 use Rattle.camxpt_c.specs.declared.record_shapes.CamxptWindow.{CamxptWindow}
 use Rattle.camxpt_c.specs.declared.codes.TheConstants.{OK, NONE, E_MEMORY, E_LIMIT}

@@ -7,8 +7,8 @@ use Rattle.camxpt_c.specs.declared.record_shapes.CamxptSpan.{CamxptSpan}
 use Rattle.camxpt_c.specs.declared.record_shapes.CamxptWindow.{CamxptWindow}
 use Rattle.camxpt_c.specs.declared.record_shapes.TheConstants.{SECONDS}
 use Rattle.camxpt_c.specs.declared.recorder_calls.TheConstants.{MAX_ROOM, BEFORE, LAST_START}
-use Rattle.window_recordings.specs.declared.cut.Ending.{Ending}
-use Rattle.window_recordings.specs.declared.cut.Ending.TheVariants as ending
+use Rattle.window_recordings.specs.declared.cut_window.Ending.{Ending}
+use Rattle.window_recordings.specs.declared.cut_window.Ending.TheVariants as ending
 
 -- why no recorder is opened
 unfoldable pub recorder_opening_fault : CamxptSpan → ℕ → ℕ → Option ℤ

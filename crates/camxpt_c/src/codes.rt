@@ -5,8 +5,8 @@ ghost use Rattle.camxpt_c.specs.Codes.{code_of, idle_code, fault_code, class_cod
 
 use cam_types::ConfigFault;
 use event_rules::Refusal;
+use recorder::NoteFault;
 use recording_file::RequestFault;
-use request_notes::NoteFault;
 use sense_class::{Class, Why};
 use xpt_state::Idle;
 

@@ -1,7 +1,7 @@
 //! The calls of a recorder.
 
 ghost use Rattle.std.specs.Prelude.{ℕ, ◌≡◌, ◌⊎◌, None, Some, nat_lt, MatchOption, MatchResult, IfOk, IfErr};
-ghost use Rattle.request_notes.specs.Faults.{cancel_fault, done_fault, start_fault};
+ghost use Rattle.recorder.specs.Faults.{cancel_fault, done_fault, start_fault};
 ghost use Rattle.recorder.specs.Recorder.{recorder_fault};
 ghost use Rattle.recorder.specs.declared.recorder.TheConstants.{MAX_DEVICES, MAX_DRIVERS};
 ghost use Rattle.camxpt_c.specs.Keeping.{arrival_noted, start_noted, done_noted, cancel_noted, one_device_more, one_driver_more, IsNoted, IsAdded, IsRead, written};

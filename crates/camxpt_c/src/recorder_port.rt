@@ -2,7 +2,7 @@
 
 ghost use Rattle.std.specs.Result.{result_err};
 ghost use Rattle.std.specs.Prelude.{◌≡◌, ◌⊎◌, ◌++◌, min, take, drop, nat_lt, true, None, is_some, length, IsSome, IfSome, IfOk, IfErr, MatchOption, MatchResult};
-ghost use Rattle.request_notes.specs.Faults.{cancel_fault, done_fault, start_fault};
+ghost use Rattle.recorder.specs.Faults.{cancel_fault, done_fault, start_fault};
 ghost use Rattle.recorder.specs.Recorder.{recorder_fault};
 ghost use Rattle.recorder.specs.Windows.{IsMaking};
 ghost use Rattle.recorder.specs.declared.recorder.TheConstants.{MAX_DEVICES, MAX_DRIVERS};
@@ -11,9 +11,8 @@ ghost use Rattle.camxpt_c.specs.declared.codes.TheConstants.{OK, E_MEMORY, E_WIN
 
 use crate::codes::{E_LIMIT, E_MEMORY, E_WINDOW, NONE, OK, note_code};
 use crate::record_shapes::CamxptWindow;
-use recorder::Recorder;
+use recorder::{NoteFault, Recorder};
 use recording_file::{Span, recording_bytes};
-use request_notes::NoteFault;
 use std::alloc::{AllocError, Global};
 use std::marker::Model;
 use window_recordings::{CutFault, CutWindow, Ending};

@@ -1,5 +1,6 @@
 //! Reads events of block devices: blkparse's text, and the kernel's tracepoints.
 
+use crate::attempt::{Arrival, Attempt as Tried, Place, State, Tag};
 use crate::blkparse_line::event_of;
 use crate::block_event::{Action, Event, Extent, RequestEvent};
 use crate::captured::{Capture, Counts};
@@ -8,12 +9,12 @@ use crate::line_fault::LineFault;
 use crate::options::{DriverBy, Options, Priorities, SKEW, SLACK};
 use crate::own_devices::OwnDevices;
 use crate::priority::{USUAL, flags_priority};
+use crate::requests::{Came, Ending, Requests};
 use crate::sizes::Sizes;
 use crate::sorted_reader::push_parts;
 use crate::tracepoint_line::tracepoint_of;
 use capture::TimedRequest;
 use capture_windows::{Attempt, TimeSpan, goes_on};
-use request_events::{Arrival, Attempt as Tried, Came, Ending, Place, Requests, State, Tag};
 use std::alloc::{AllocError, Global};
 use std::collections::BTreeMap;
 

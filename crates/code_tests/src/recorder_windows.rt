@@ -1,8 +1,7 @@
 //! The windows of a recorder.
 
-use recorder::{MAX_DEVICES, MAX_DRIVERS, Recorder};
+use recorder::{MAX_DEVICES, MAX_DRIVERS, NoteFault, Recorder, SLACK};
 use recording_file::{Span, TimeUnit};
-use request_notes::{NoteFault, SLACK};
 use std::test::Fail;
 use window_recordings::Ending;
 

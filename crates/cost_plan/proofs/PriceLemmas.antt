@@ -12,7 +12,7 @@ use Rattle.round_net.proofs.SumLemmas.{sum_below-same, sum_below-add, term-le-su
 use Rattle.round_net.proofs.PathLemmas.{path-inside, exchange_path}
 use Rattle.cost_plan.proofs.CellLemmas.{node_of-resource, node_of-past, steps_up, steps_up-levels, resources_up-resource, resources_up-past, path-resources_up}
 use Rattle.cost_plan.proofs.CycleChangeLemmas.{mul-sub}
-use Rattle.order_prices.proofs.LeastLemmas.{least-at}
+use Rattle.orders.proofs.LeastLemmas.{least-at}
 
 -- the price of a cell that takes stays
 resource_price-open : (net : Instance) (y : ℕ → ℕ) (resource r : ℕ) → 0 < net.cap resource r → resource_price net y resource r ≡ y (cell net resource r) - y (above net resource r)

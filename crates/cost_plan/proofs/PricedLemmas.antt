@@ -7,7 +7,7 @@ use Rattle.cost_plan.specs.Words.{least, Instance, rows, path, IsSound, PriceRow
 use Rattle.cost_plan.specs.ResourcePrices.{resource_price, IsPrice, PricesResource, PricesResources}
 use Rattle.round_net.proofs.SumLemmas.{sum_below-same}
 use Rattle.round_net.proofs.PathLemmas.{path-inside}
-use Rattle.order_prices.proofs.LeastLemmas.{In, filter-In, range-In}
+use Rattle.orders.proofs.LeastLemmas.{In, filter-In, range-In}
 
 -- the size stays
 pub IsPricingFor-kept : (net : Instance) (old new : PriceRows) → IsSameSize old new → IsPricingFor net old → IsPricingFor net new

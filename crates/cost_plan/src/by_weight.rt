@@ -7,8 +7,7 @@ ghost use Rattle.cost_plan.specs.Words.{instance_of_rows, live_of_rows, IsSound,
 ghost use Rattle.cost_plan.specs.ResourcePrices.{IsAtMost};
 
 use crate::best_plan::BestPlan;
-use order_prices::closed_prices;
-use orders::{Order, ordered};
+use orders::{Order, closed_prices, ordered};
 use price_check::{Verdict, check};
 use round_net::{Net, Prices, Schedule};
 use std::alloc::{AllocError, Global};

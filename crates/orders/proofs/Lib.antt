@@ -5,3 +5,11 @@ pub mod KeyLemmas
 pub mod RoomLemmas
 pub mod SkipLemmas
 pub mod PlacingLemmas
+pub mod LeastLemmas
+pub mod ClosedLemmas
+pub mod BestLemmas
+pub mod TakeLemmas
+pub mod FirstLemmas
+pub mod OwnLemmas
+pub mod FillLemmas
+pub mod WorthLemmas

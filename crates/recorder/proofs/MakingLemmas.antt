@@ -1,9 +1,9 @@
 -- the window that is made next
 use Rattle.std.proofs.Common.{◌≡◌, ◌∙◌, ap, sym, subst, inr, refl, Option, None, Some, MatchOption}
-use Rattle.request_notes.specs.Notes.{Noted}
+use Rattle.recorder.specs.Notes.{Noted}
 use Rattle.recorder.specs.Recorder.{Recorded}
 use Rattle.recorder.specs.Windows.{IsCutOff, IsKept, IsMaking, IsNextCut}
-use Rattle.window_recordings.specs.declared.cut.Cut.{Cut}
+use Rattle.window_recordings.specs.declared.cut_window.Cut.{Cut}
 
 -- where none waits to be taken, a cut becomes a window
 one_more : (Lost : Type 0) (old new : Recorded) (cut : Cut) → old.window ≡ None → IsNextCut old cut new.noted → IsKept Lost cut new → new ≡ record old { noted = new.noted; cut = new.cut; window = new.window } → IsMaking Lost old new

@@ -1,12 +1,12 @@
 -- what a recorder keeps
 use Rattle.std.specs.Prelude.{ℕ, nat_le, if◌then◌else◌, [], Option, Some, None}
-use Rattle.request_notes.specs.Faults.{arrival_fault}
-use Rattle.request_notes.specs.Notes.{Noted}
+use Rattle.recorder.specs.Faults.{arrival_fault}
+use Rattle.recorder.specs.Notes.{Noted}
 use Rattle.recorder.specs.declared.recorder.TheConstants.{MAX_DEVICES, MAX_DRIVERS}
-use Rattle.request_notes.specs.declared.note_fault.NoteFault.{NoteFault}
-use Rattle.request_notes.specs.declared.note_fault.NoteFault.TheVariants.{NoDevice, NoDriver}
-use Rattle.window_recordings.specs.declared.cut.Cut.{Cut}
-use Rattle.window_recordings.specs.declared.cut.CutWindow.{CutWindow}
+use Rattle.recorder.specs.declared.note_fault.NoteFault.{NoteFault}
+use Rattle.recorder.specs.declared.note_fault.NoteFault.TheVariants.{NoDevice, NoDriver}
+use Rattle.window_recordings.specs.declared.cut_window.Cut.{Cut}
+use Rattle.window_recordings.specs.declared.cut_window.CutWindow.{CutWindow}
 
 -- how many devices and drivers were added, what was noted and isn't in a window yet, a window that is over and has no recording yet, and one
 -- that has

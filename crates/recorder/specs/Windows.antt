@@ -1,10 +1,10 @@
 -- the windows that are made of what was noted
 use Rattle.std.specs.Prelude.{◌≡◌, ◌⊎◌, map, None, MatchOption}
 use Rattle.capture_windows.specs.Attempts.{requests_in, waiting_at}
-use Rattle.request_notes.specs.Notes.{Noted, attempt_of}
-use Rattle.request_notes.specs.Windows.{after_window}
+use Rattle.recorder.specs.Notes.{Noted, attempt_of}
+use Rattle.recorder.specs.NoteWindows.{after_window}
 use Rattle.window_recordings.specs.Recordings.{IsMadeOf}
-use Rattle.window_recordings.specs.declared.cut.Cut.{Cut}
+use Rattle.window_recordings.specs.declared.cut_window.Cut.{Cut}
 use Rattle.recorder.specs.Recorder.{Recorded}
 
 -- a window is cut off what was noted: it takes what was started in it and what waits at its end, and just those notes stay that go on

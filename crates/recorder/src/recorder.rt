@@ -2,15 +2,16 @@
 
 ghost use Rattle.std.specs.Prelude.{◌≡◌, ◌≢◌, ◌+◌, nat_lt, if◌then◌else◌, None, true, is_some, option_copied, IsSome, IfOk, OnOk, OnErr, MatchOption, MatchResult};
 ghost use Rattle.std.specs.Result.{result_err};
-ghost use Rattle.request_notes.specs.Notes.{arrived, change, done_at, started_at, withdrawn, with_arrival, with_change};
-ghost use Rattle.request_notes.specs.Faults.{cancel_fault, done_fault, start_fault};
+ghost use Rattle.recorder.specs.Notes.{arrived, change, done_at, started_at, withdrawn, with_arrival, with_change};
+ghost use Rattle.recorder.specs.Faults.{cancel_fault, done_fault, start_fault};
 ghost use Rattle.recorder.specs.Recorder.{nothing_noted, recorder_fault};
 ghost use Rattle.recorder.specs.Windows.{IsCutOff, IsKept, IsMaking};
 ghost use Rattle.window_recordings.specs.declared.cut_fault.CutFault.TheVariants.{OutOfMemory};
 ghost use Rattle.recorder.specs.declared.recorder.TheConstants.{MAX_DEVICES, MAX_DRIVERS};
 
+use crate::note_fault::NoteFault;
+use crate::notes::{Notes, SLACK};
 use recording_file::Span;
-use request_notes::{NoteFault, Notes, SLACK};
 use std::alloc::{AllocError, Global};
 use std::marker::Model;
 use window_recordings::{Cut, CutFault, CutWindow, Cutter, Ending, Layout, Names, record};

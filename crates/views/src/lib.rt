@@ -1,5 +1,5 @@
 //! What there is to read of a history and its audit: the text that explains where commands waited, two explanations side by
-//! side, the table of a sweep, objects of JSON, and what helps to find a fault.
+//! side, the table of a sweep, objects of JSON, and what helps to find a fault; and what there is to read of a capture in windows.
 #![tactic(auto)]
 
 pub use as_json::{
@@ -13,6 +13,7 @@ pub use notes::{recording_note, report_note, shown_lines, shown_name, trace_note
 pub use swept::{Swept, sweep_page};
 pub use text::page;
 pub use wait_causes::PairBy;
+pub use watched::{Sums, TABLE_HEAD, Window, exposition, table_row, window_json};
 
 mod as_json;
 mod behind;
@@ -26,3 +27,4 @@ mod pairing;
 mod swept;
 mod tables;
 mod text;
+mod watched;

@@ -1,1 +1,5 @@
 pub mod RowLemmas
+pub mod BelowLemmas
+pub mod CapLemmas
+pub mod WideLemmas
+pub mod TryLemmas

@@ -4,7 +4,7 @@ use Rattle.std.specs.Option.{IfSome}
 use Rattle.std.specs.Result.{IfOk, result_ok}
 use Rattle.std.proofs.Math.ListN.{get_or-map}
 use Rattle.std.proofs.lemmas.List.{length-map}
-use Rattle.changes.specs.declared.change.Change.{Change}
+use Rattle.what_if.specs.declared.change.Change.{Change}
 use Rattle.round_net.specs.Rows.{NetRows}
 use Rattle.what_if.specs.Costs.{Costs, IsRowAt, AreRowsOf}
 

@@ -1,9 +1,9 @@
 -- what the waiting costs by each order, as it was and with more openings
 use Rattle.std.specs.Prelude.{◌≡◌, ℕ, ◌+◌, ◌<◌, All, List, length, slice_index_or, Option, Some, None, Vec}
 use Rattle.std.specs.Global.{Global}
-use Rattle.changes.specs.Caps.{changed_net}
-use Rattle.changes.specs.Changes.{IsChangeOf}
-use Rattle.changes.specs.declared.change.Change.{Change}
+use Rattle.what_if.specs.Caps.{changed_net}
+use Rattle.what_if.specs.Changes.{IsChangeOf}
+use Rattle.what_if.specs.declared.change.Change.{Change}
 use Rattle.orders.specs.Orders.{IsOrdered, unsent, late}
 use Rattle.orders.specs.declared.order.Order.{Order}
 use Rattle.orders.specs.declared.order.Order.TheVariants.{FirstCome, ByWeight}

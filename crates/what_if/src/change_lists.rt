@@ -2,10 +2,10 @@
 
 ghost use Rattle.std.specs.Prelude.{◌≡◌, true, All, IfOk};
 ghost use Rattle.round_net.specs.Rows.{instance_of_rows};
-ghost use Rattle.changes.specs.Changes.{IsChangeOf};
+ghost use Rattle.what_if.specs.Changes.{IsChangeOf};
 ghost use Rattle.what_if.specs.Costs.{AreChanges};
 
-use changes::{Change, Resource, Widening};
+use crate::change::{Change, Resource, Widening};
 use round_net::{MAX_CAP, Net};
 use std::alloc::{AllocError, Global};
 

@@ -3,12 +3,13 @@
 ghost use Rattle.std.specs.Prelude.{◌≡◌, ◌<◌, ℕ, All, length, slice_index_or, map, Option, Some, Vec, IfOk, IfSome};
 ghost use Rattle.round_net.specs.Rows.{instance_of_rows};
 ghost use Rattle.what_if.specs.Costs.{Costs as TheCosts, AreCosts, AreChanges, IsRowAt, AreRowsOf};
-ghost use Rattle.changes.specs.Caps.{changed_net};
-ghost use Rattle.changes.specs.Changes.{IsChangeOf};
+ghost use Rattle.what_if.specs.Caps.{changed_net};
+ghost use Rattle.what_if.specs.Changes.{IsChangeOf};
 
+use crate::change::Change;
 use crate::costs::{Costs, costs_of};
 use crate::progress::Progress;
-use changes::{Change, changed};
+use crate::widen::changed;
 use round_net::Net;
 use std::alloc::{AllocError, Global};
 use std::thread::{Threads, for_each_mut};

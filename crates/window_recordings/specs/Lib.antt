@@ -1,1 +1,3 @@
 pub mod Recordings
+pub mod Laws
+pub mod Windows

@@ -6,9 +6,9 @@ use Rattle.capture_windows.specs.Attempts.{before}
 use Rattle.capture_windows.specs.declared.windows.TheConstants.{MAX_WINDOW_ROUNDS}
 use Rattle.recording_file.specs.Recorded.{Recorded}
 use Rattle.recording_file.specs.declared.span.Span.{Span}
-use Rattle.windows.specs.Windows.{first_window}
-use Rattle.window_recordings.specs.declared.cut.Cut.{Cut}
-use Rattle.window_recordings.specs.declared.cut.CutWindow.{CutWindow}
+use Rattle.window_recordings.specs.Windows.{first_window}
+use Rattle.window_recordings.specs.declared.cut_window.Cut.{Cut}
+use Rattle.window_recordings.specs.declared.cut_window.CutWindow.{CutWindow}
 
 -- a request's next attempt, if it arrives before the end of what is taken
 abbrev pub retried_before : Option ℕ → Option ℕ → Option ℕ

@@ -4,8 +4,8 @@ ghost use Rattle.std.specs.Prelude.{◌≡◌, IfOk, IfSome};
 ghost use Rattle.capture_windows.specs.Attempts.{requests_in, waiting_at};
 ghost use Rattle.capture_windows.specs.Devices.{going_on};
 
-use crate::cut::{Cut, Ending};
 use crate::cut_fault::CutFault;
+use crate::cut_window::{Cut, Ending};
 use crate::first_round::{first_arrival, first_round};
 use crate::layout::{Layout, value_of};
 use crate::names::{Names, name_at};

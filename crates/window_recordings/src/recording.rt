@@ -3,17 +3,17 @@
 ghost use Rattle.std.specs.Prelude.{◌≡◌, IfOk};
 ghost use Rattle.window_recordings.specs.Recordings.{IsMadeOf, IsWholeOf, capture_of, few};
 
-use crate::cut::{Cut, CutWindow};
 use crate::cut_fault::CutFault;
+use crate::cut_window::{Cut, CutWindow};
 use crate::layout::Layout;
 use crate::names::Names;
 use crate::parts::WindowParts;
+use crate::window::first_window;
 use cam_types::{Config, Priority};
 use capture::{Capture, CaptureFault, TimedRequest};
 use capture_windows::{MAX_WINDOW_ROUNDS, Rounds, WindowRoom};
 use recording_file::{Recording, Span};
 use std::alloc::{AllocError, Global};
-use windows::first_window;
 
 /// The recording of a window. Requests that arrive at `end` or later aren't taken.
 ///

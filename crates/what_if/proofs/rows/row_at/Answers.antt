@@ -1,7 +1,7 @@
 use Rattle.std.proofs.Common.{◌≡◌, List, Vec, Global, get_or, sym, ap, ◌∙◌, subst}
 use Rattle.std.proofs.lemmas.List.{get_or_default}
-use Rattle.changes.specs.Caps.{changed_net}
-use Rattle.changes.specs.declared.change.Change.{Change}
+use Rattle.what_if.specs.Caps.{changed_net}
+use Rattle.what_if.specs.declared.change.Change.{Change}
 use Rattle.round_net.specs.Rows.{instance_of_rows}
 use Rattle.what_if.specs.Costs.{AreCosts}
 use Rattle.what_if.proofs.RowLemmas.{from_ok}

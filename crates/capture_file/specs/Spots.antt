@@ -1,0 +1,70 @@
+-- where attempts that haven't ended are found
+use Rattle.std.specs.Prelude.{◌≡◌, ℕ, ◌==◌, nat_le, nat_lt, Bool, true, false, not, is_some, ◌&&◌, ◌||◌, if◌then◌else◌, List, filter, Option, Some, None}
+use Rattle.std.specs.Option.{option_cmp}
+use Rattle.std.specs.Ordering.{nat_cmp, bool_cmp, ordering_then, is_eq}
+use Rattle.std.specs.declared.cmp.Ordering.{Ordering}
+use Rattle.capture_file.specs.declared.attempt.Arrival.{Arrival}
+use Rattle.capture_file.specs.declared.attempt.Attempt.{Attempt}
+use Rattle.capture_file.specs.declared.attempt.Place.{Place}
+use Rattle.capture_file.specs.declared.attempt.State.TheVariants.{Waiting, InFlight, Completed, PutBack}
+use Rattle.capture_file.specs.declared.spot.Queue.{Queue}
+use Rattle.capture_file.specs.declared.spot.Spot.{Spot}
+use Rattle.capture_file.specs.States.{State, start_of}
+use Rattle.capture_file.specs.Attempts.{first_started}
+
+abbrev pub waiting : Place → Queue
+waiting place = record { place = place; in_flight = false; early = false }
+
+abbrev pub in_flight : Place → Bool → Queue
+in_flight place early = record { place = place; in_flight = true; early = early }
+
+-- of what is in a state
+abbrev pub queue_of : Place → Option Arrival → State → Option Queue
+queue_of place arrival Waiting = Some (waiting place)
+queue_of place arrival (InFlight start) = Some (in_flight place (not (is_some arrival)))
+queue_of place arrival (Completed start end) = None
+queue_of place arrival (PutBack start end) = None
+
+abbrev pub spot_in : ℕ → ℕ → Option Queue → Option Spot
+spot_in start id None = None
+spot_in start id (Some queue) = Some (record { queue = queue; start = start; id = id })
+
+-- where an attempt is, if it hasn't ended
+abbrev pub spot_of : Attempt → Option Spot
+spot_of a = spot_in (start_of a.state) a.id (queue_of a.place a.arrival a.state)
+
+-- ---- their order
+
+abbrev pub place_cmp : Place → Place → Ordering
+place_cmp p q = ordering_then (nat_cmp p.device q.device) (option_cmp nat_cmp p.sector q.sector)
+
+abbrev pub queue_cmp : Queue → Queue → Ordering
+queue_cmp p q = ordering_then (place_cmp p.place q.place) (ordering_then (bool_cmp p.in_flight q.in_flight) (bool_cmp p.early q.early))
+
+abbrev pub spot_cmp : Spot → Spot → Ordering
+spot_cmp s t = ordering_then (queue_cmp s.queue t.queue) (ordering_then (nat_cmp s.start t.start) (nat_cmp s.id t.id))
+
+abbrev pub is_at_spot : Option Spot → Spot → Bool
+is_at_spot None q = false
+is_at_spot (Some s) q = is_eq (spot_cmp s q)
+
+-- one isn't where the other is
+abbrev pub AreApart : Attempt → Attempt → Type 0
+AreApart a b = (q : Spot) → is_at_spot (spot_of a) q ≡ true → is_at_spot (spot_of b) q ≡ false
+
+-- ---- the first of a queue
+
+abbrev pub is_spot_in : Queue → ℕ → Option Spot → Bool
+is_spot_in queue from None = false
+is_spot_in queue from (Some s) = is_eq (queue_cmp s.queue queue) && nat_le from s.start
+
+abbrev pub first_at : Queue → ℕ → List Attempt → Option Attempt
+first_at queue from all = first_started (filter (λ a. is_spot_in queue from (spot_of a)) all)
+
+abbrev pub comes_first : Attempt → Attempt → Bool
+comes_first a b = nat_lt (start_of a.state) (start_of b.state) || ((start_of a.state == start_of b.state) && nat_lt a.id b.id)
+
+abbrev pub earlier_of : Option Attempt → Option Attempt → Option Attempt
+earlier_of None other = other
+earlier_of (Some a) None = Some a
+earlier_of (Some a) (Some b) = Some (if comes_first b a then b else a)

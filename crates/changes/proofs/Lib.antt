@@ -1,4 +1,0 @@
-pub mod BelowLemmas
-pub mod CapLemmas
-pub mod WideLemmas
-pub mod TryLemmas

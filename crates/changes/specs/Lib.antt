@@ -1,4 +1,0 @@
-pub mod Changes
-pub mod Below
-pub mod Caps
-pub mod Tries

@@ -1,4 +1,0 @@
-pub mod ClosedPrices
-pub mod FirstWaiting
-pub mod OwnOrders
-pub mod Worth

@@ -1,6 +1,0 @@
-use Rattle.request_events.proofs.KnownLemmas.{below_put}
-use Rattle.request_events.proofs.requests.Requests.arrive.Goals as goal
-
-pub invariant_of-self-in-Some : goal.invariant_of-self-in-Some
-invariant_of-self-in-Some c =
-    rw c.in_ok-replace.ensures.ok (below_put c.self.inside.next c.self.inside.table _ c.self.invariant)

@@ -1,5 +1,0 @@
-use Rattle.request_events.proofs.KnownLemmas.{below_put}
-use Rattle.request_events.proofs.requests.Requests.complete.Goals as goal
-
-pub invariant_of-self : goal.invariant_of-self
-invariant_of-self c = rw c.end.ensures (below_put c.self.inside.next c.self.inside.table _ c.self.invariant)

@@ -1,5 +1,0 @@
-use Rattle.request_events.proofs.KnownLemmas.{below_without}
-use Rattle.request_events.proofs.requests.Requests.merge_back.Goals as goal
-
-pub invariant_of-self : goal.invariant_of-self
-invariant_of-self c = rw c.remove.ensures (below_without c.self.inside.next c.self.inside.table _ c.self.invariant)

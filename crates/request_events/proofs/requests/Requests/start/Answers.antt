@@ -1,6 +1,0 @@
-use Rattle.request_events.proofs.KnownLemmas.{below_put}
-use Rattle.request_events.proofs.requests.Requests.start.Goals as goal
-
-pub invariant_of-self-2 : goal.invariant_of-self-2
-invariant_of-self-2 c =
-    rw c.in_ok-replace.ensures.ok (below_put c.self.inside.next c.self.inside.table _ c.self.invariant)

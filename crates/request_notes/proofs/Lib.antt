@@ -1,4 +1,0 @@
-pub mod IndexLemmas
-pub mod KeepLemmas
-pub mod NoteLemmas
-pub mod WindowLemmas

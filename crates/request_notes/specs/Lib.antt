@@ -1,5 +1,0 @@
-pub mod Notes
-pub mod Faults
-pub mod Ids
-pub mod Places
-pub mod Windows

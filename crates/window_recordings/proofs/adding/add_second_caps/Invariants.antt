@@ -1,0 +1,6 @@
+use Rattle.std.proofs.Common.{◌≡◌, ◌-◌, [], take}
+use Rattle.window_recordings.specs.Windows.{second_caps}
+use Rattle.window_recordings.proofs.adding.add_second_caps.Given as goal
+
+abbrev pub invariant-loop-cap : goal.invariant-loop-cap
+invariant-loop-cap l = l.recorder ≡ record l.recording { rounds = l.recording.rounds - l.round; requests = []; caps = second_caps l.round (take l.cap-index l.recording.caps) }

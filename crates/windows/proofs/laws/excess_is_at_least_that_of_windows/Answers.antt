@@ -1,5 +1,0 @@
-use Rattle.windows.proofs.LawLemmas.{excess-parts}
-use Rattle.windows.proofs.laws.excess_is_at_least_that_of_windows.Goals as goal
-
-pub returns : goal.returns
-returns c = λ excess first second whole one two. excess-parts c.args.round c.args.recording.now excess first second c.requires c.rounds-rounds.ensures.kept whole one two

@@ -1,5 +1,0 @@
-use Rattle.windows.proofs.LawLemmas.{cost-parts}
-use Rattle.windows.proofs.laws.nothing_is_lost.Goals as goal
-
-pub returns : goal.returns
-returns c = cost-parts c.args.round c.args.recording.now c.requires

@@ -2,14 +2,13 @@
 //! are worth: no plan costs less than prices are worth.
 
 mod generated;
-mod repaired;
 mod verdict;
 
 use generated::{Kind, Shape, network};
+use large_plans::{Budget, Guess, Network, NoProgress, plan_by_levels, plan_by_repair};
 use std::alloc::Global;
 use std::test::Fail;
-use time_levels::{NoProgress, plan};
-use verdict::{Verdict, judge};
+use verdict::judge;
 
 const LOOSE: Shape = Shape {
     kind: Kind::Bursts,
@@ -90,19 +89,26 @@ const SHAPES: [Shape; 10] = [
     },
 ];
 
-// What the plan of a network of this shape comes to, if there is one.
-fn verdict_of(alloc: Global, shape: Shape) -> Result<Option<Verdict>, Fail> {
+const BUDGET: Budget = Budget {
+    nodes: 8_000_000,
+    nodes_per_path: 0,
+};
+
+// Whether the plans of a network of this shape by levels and by repair are best.
+fn are_best(alloc: Global, shape: Shape) -> Result<(bool, bool), Fail> {
     let network = network(alloc, shape)?;
-    match plan(alloc, &network, &NoProgress)? {
-        Some(levels) => Ok(Some(judge(alloc, &network, &levels)?)),
-        None => Ok(None),
-    }
+    let by_levels = plan_by_levels(alloc, &network, &NoProgress)?;
+    let by_repair = plan_by_repair(alloc, &network, BUDGET, &NoProgress)?;
+    Ok((
+        is_best(alloc, &network, by_levels)?,
+        is_best(alloc, &network, by_repair)?,
+    ))
 }
 
-fn is_best(verdict: Option<Verdict>) -> bool {
-    match verdict {
-        Some(verdict) => verdict.is_best(),
-        None => false,
+fn is_best(alloc: Global, network: &Network, guess: Option<Guess>) -> Result<bool, Fail> {
+    match guess {
+        Some(guess) => Ok(judge(alloc, network, &guess)?.is_best()),
+        None => Ok(false),
     }
 }
 
@@ -111,10 +117,7 @@ fn small_plans_are_best(rt: HostRuntime) -> Result<(), Fail> {
     for shape in SHAPES {
         for seed in 1..4 {
             let shape = Shape { seed, ..shape };
-            let verdict = verdict_of(rt.alloc(), shape)?;
-            assert!(rt; is_best(verdict), "{shape:?}: {verdict:?}");
-            let verdict = repaired::verdict_of(rt.alloc(), shape)?;
-            assert!(rt; is_best(verdict), "by repair: {shape:?}: {verdict:?}");
+            assert_eq!(rt; are_best(rt.alloc(), shape)?, (true, true), "{shape:?}");
         }
     }
     Ok(())
@@ -137,10 +140,7 @@ fn larger_plans_are_best(rt: HostRuntime) -> Result<(), Fail> {
                 closed: 5,
                 seed: 7,
             };
-            let verdict = verdict_of(rt.alloc(), shape)?;
-            assert!(rt; is_best(verdict), "{shape:?}: {verdict:?}");
-            let verdict = repaired::verdict_of(rt.alloc(), shape)?;
-            assert!(rt; is_best(verdict), "by repair: {shape:?}: {verdict:?}");
+            assert_eq!(rt; are_best(rt.alloc(), shape)?, (true, true), "{shape:?}");
         }
     }
     Ok(())

@@ -10,7 +10,7 @@ use Rattle.std.proofs.lemmas.List.Edits.{swap_is, swapped_from_swap, length-swap
 use Rattle.std.proofs.lemmas.List.Sorted.{IsPermutation-keeps, length_permutation}
 use Rattle.round_net.specs.Sums.{sum_below}
 use Rattle.round_net.proofs.SumLemmas.{sum_below-same, sum_below-add, sum_below-set}
-use Rattle.turns.specs.Turns.{HaveWindows, AreInTurnWithin, AreSpared}
+use Rattle.cost_plan.specs.Turns.{HaveWindows, AreInTurnWithin, AreSpared}
 use Rattle.cost_plan.specs.Words.{Instance, uses, IsAdmissible, load, cost, IsSound}
 use Rattle.cost_plan.specs.TurnOrder.{IsKind, IsKindTurned}
 

@@ -13,3 +13,7 @@ pub mod TieLemmas
 pub mod OrderLemmas
 pub mod KindLemmas
 pub mod KindsLemmas
+pub mod SlotLemmas
+pub mod SortLemmas
+pub mod TurnLemmas
+pub mod ExchangeLemmas

@@ -9,7 +9,7 @@ use Rattle.std.proofs.lemmas.Cmp.{nat_cmp_total, on_total, then_total}
 use Rattle.std.proofs.lemmas.List.{get_or-map, get_or_default, length-map, ext_get_or}
 use Rattle.std.proofs.lemmas.List.FromFn.{length-range_with_len, get_or-range_with_len}
 use Rattle.std.proofs.lemmas.List.Sorted.{IsPermutation-map, All-permutation, Contains-permutation, length_permutation, sorted_far, ranks_by}
-use Rattle.turns.proofs.SortLemmas.{AreDistinct, AreDistinct-permutation}
+use Rattle.cost_plan.proofs.SortLemmas.{AreDistinct, AreDistinct-permutation}
 use Rattle.cost_plan.specs.Words.{Instance}
 use Rattle.cost_plan.specs.TurnOrder.{turn_of, all_turns, IsUpTo, IsTurnOrder}
 use Rattle.cost_plan.specs.declared.turn_order.Turn.{Turn}

@@ -1,7 +1,7 @@
 -- Stays of one device and one weight that are sent in turn.
 use Rattle.std.specs.Prelude.{◌≡◌, ℕ, ◌<◌, ◌≤◌, ◌⊎◌, ◌==◌, ◌&&◌, Bool, count_by}
 use Rattle.std.specs.List.{range_with_len}
-use Rattle.turns.specs.declared.exchange.TheConstants.{FEW_STAYS}
+use Rattle.cost_plan.specs.declared.turns.exchange.TheConstants.{FEW_STAYS}
 use Rattle.cost_plan.specs.Words.{Instance}
 
 -- two stays are of one device and one weight

@@ -8,3 +8,6 @@ pub mod Parts
 pub mod Ties
 pub mod InTurn
 pub mod TurnOrder
+pub mod Turns
+pub mod Slots
+pub mod Exchanges

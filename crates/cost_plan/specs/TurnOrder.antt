@@ -2,7 +2,7 @@
 use Rattle.std.specs.Prelude.{◌≡◌, ℕ, ◌<◌, ◌≤◌, List, length, map, slice_index}
 use Rattle.std.specs.List.{range_with_len}
 use Rattle.std.specs.List.Sorted.{IsPermutation}
-use Rattle.turns.specs.declared.exchange.TheConstants.{FEW_STAYS}
+use Rattle.cost_plan.specs.declared.turns.exchange.TheConstants.{FEW_STAYS}
 use Rattle.cost_plan.specs.Words.{Instance, IsAdmissible, cost}
 use Rattle.cost_plan.specs.InTurn.{AreAlike, CouldChange, AreSpared}
 use Rattle.cost_plan.specs.declared.turn_order.Turn.{Turn}

@@ -4,8 +4,8 @@
 #![tactic(auto)]
 
 pub use best_plan::{BestPlan, guessed_plan, guessed_plan_with, plan, plan_with};
+pub use large_plans::Done;
 pub use plan_progress::{NoPlanProgress, PlanProgress};
-pub use time_levels::Done;
 
 mod arcs;
 mod begin;
@@ -15,7 +15,7 @@ mod by_weight;
 mod cells;
 mod keep_live;
 mod keeping;
-mod levels;
+mod large_nets;
 mod lists;
 mod one_kind;
 mod part;
@@ -25,9 +25,9 @@ mod plan_progress;
 mod pricing;
 mod problem;
 mod relax;
-mod repairing;
 mod search;
 mod take_turns;
 mod turn_order;
+mod turns;
 mod units;
 mod working_schedule;

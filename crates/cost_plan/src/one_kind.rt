@@ -5,9 +5,9 @@ ghost use Rattle.std.specs.Result.{OnOk};
 ghost use Rattle.cost_plan.specs.Words.{instance_of_rows, live_of_rows, IsSound, IsAdmissible};
 ghost use Rattle.cost_plan.specs.TurnOrder.{IsKind, IsKindTurned};
 
+use crate::turns::in_turn_within;
 use round_net::Net;
 use std::alloc::{AllocError, Global};
-use turns::in_turn_within;
 
 /// Gives the rounds of these stays, which stand in the order of their turns, to them in turn.
 pub fn turn_kind(

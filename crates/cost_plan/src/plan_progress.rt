@@ -1,6 +1,6 @@
 //! The progress of a plan.
 
-use time_levels::Done;
+use large_plans::Done;
 
 /// Receives the progress of a plan. A part has the stays of all adapters on one link, or of an adapter on no link.
 pub trait PlanProgress {

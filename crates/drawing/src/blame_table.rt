@@ -1,10 +1,9 @@
 //! The table of who was in the way of whom.
 
 use crate::scene::Scene;
-use blame::{BlameRow, blame_of};
 use recording_file::{NameKind, Span};
 use std::alloc::AllocError;
-use wait_causes::Grouping;
+use wait_causes::{BlameRow, Grouping, blame_of};
 use wording::{Page, push_number, push_rounds};
 
 // How many rows are listed.

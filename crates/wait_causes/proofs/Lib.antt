@@ -24,3 +24,8 @@ pub mod SameLemmas
 pub mod RowSumLemmas
 pub mod RowNumberLemmas
 pub mod LatencyLemmas
+pub mod WayLemmas
+pub mod BlameTotalLemmas
+pub mod BlameAmountLemmas
+pub mod BlameLawLemmas
+pub mod BlameTableLemmas

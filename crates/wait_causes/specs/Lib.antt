@@ -26,3 +26,8 @@ pub mod Pairs
 pub mod Changes
 pub mod PairLaws
 pub mod Terms
+pub mod InTheWay
+pub mod BlameAmounts
+pub mod BlameLists
+pub mod BlameRows
+pub mod BlameLaws

@@ -1,9 +1,10 @@
 //! Why each command waited: the rounds that the stays of a history or a recording waited, each with its cause, beside the
-//! rounds in which another schedule sends them. And two such explanations side by side: what the waiting cost before a change
-//! and after it.
+//! rounds in which another schedule sends them; and who was in the way. And two such explanations side by side: what the waiting
+//! cost before a change and after it.
 #![tactic(auto)]
 
 pub use behind::{Behind, FullBehind};
+pub use blame::{BlameRow, blame_adds_up, blame_of};
 pub use cause_runs::{CauseRuns, DeviceRuns};
 pub use differences::Differences;
 pub use explained_stay::{CauseRounds, ExplainedStay};
@@ -23,6 +24,7 @@ pub use table::{Grouping, Row, greatest, groups_of};
 pub use wait::Wait;
 
 mod behind;
+mod blame;
 mod cause_runs;
 mod counting;
 mod differences;

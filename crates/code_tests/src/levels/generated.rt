@@ -1,7 +1,7 @@
 //! Networks that are made by a seed.
 
+use large_plans::{Network, NetworkStay};
 use std::alloc::{AllocError, Global};
-use time_levels::{Arrival, Network, Row};
 
 /// When requests come.
 #[derive(Clone, Copy, Debug)]
@@ -55,8 +55,7 @@ pub(super) fn network(alloc: Global, shape: Shape) -> Result<Network, AllocError
     add_devices(alloc, &mut network, &mut dice, shape)?;
     add_adapters(alloc, &mut network, &mut dice, shape)?;
     add_links(alloc, &mut network, &mut dice, shape)?;
-    add_rows(&mut network, shape)?;
-    add_arrivals(&mut network, &mut dice, shape)?;
+    add_stays(&mut network, &mut dice, shape)?;
     Ok(network)
 }
 
@@ -127,23 +126,8 @@ fn add_unit(
     Ok(())
 }
 
-fn add_rows(network: &mut Network, shape: Shape) -> Result<(), AllocError> {
-    for number in 0..shape.devices.saturating_mul(shape.weights) {
-        let weight = number.checked_rem(shape.weights).unwrap_or(0);
-        network.add_row(Row {
-            unit: number.checked_div(shape.weights).unwrap_or(0),
-            weight: weight
-                .saturating_mul(weight)
-                .saturating_mul(3)
-                .saturating_add(1),
-        })?;
-    }
-    Ok(())
-}
-
-fn add_arrivals(network: &mut Network, dice: &mut Dice, shape: Shape) -> Result<(), AllocError> {
+fn add_stays(network: &mut Network, dice: &mut Dice, shape: Shape) -> Result<(), AllocError> {
     let mut left = shape.requests;
-    let rows = shape.devices.saturating_mul(shape.weights);
     let span = shape.rounds.saturating_sub(1);
     for number in 0..shape.requests {
         if left == 0 {
@@ -162,12 +146,29 @@ fn add_arrivals(network: &mut Network, dice: &mut Dice, shape: Shape) -> Result<
                 .unwrap_or(0)
                 .min(span),
         };
-        network.add_arrival(Arrival {
-            row: dice.below(rows),
+        let stay = stay_in(
+            dice.below(shape.devices.saturating_mul(shape.weights)),
             round,
-            count: size,
-        })?;
+            shape,
+        );
+        for _ in 0..size {
+            network.add_stay(stay)?;
+        }
         left = left.saturating_sub(size);
     }
     Ok(())
+}
+
+// A stay that may wait to the end, of a device and a weight that this number has.
+fn stay_in(number: u32, arrival: u32, shape: Shape) -> NetworkStay {
+    let weight = number.checked_rem(shape.weights).unwrap_or(0);
+    NetworkStay {
+        unit: number.checked_div(shape.weights).unwrap_or(0),
+        weight: weight
+            .saturating_mul(weight)
+            .saturating_mul(3)
+            .saturating_add(1),
+        arrival,
+        last: shape.rounds.saturating_sub(1),
+    }
 }

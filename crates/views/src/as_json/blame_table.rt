@@ -1,8 +1,8 @@
 //! Who was in the way, by drivers or by run levels.
 
 use crate::as_json::members::{begin_list, put_members};
-use blame::BlameRow;
 use serde::Serializer;
+use wait_causes::BlameRow;
 
 /// Writes a table of blame as a member of the object that is open.
 pub(crate) fn put_blame<S: Serializer>(

@@ -15,11 +15,10 @@ use crate::as_json::stays::put_stays;
 use crate::compared::Compared;
 use crate::limited::Limited;
 use crate::tables::tables_of;
-use blame::{BlameRow, blame_of};
 use round_net::Net;
 use serde::{Described, Serialize, Serializer};
 use std::alloc::{AllocError, Global};
-use wait_causes::{Explanation, Freeze, Grouping, Part, Row};
+use wait_causes::{BlameRow, Explanation, Freeze, Grouping, Part, Row, blame_of};
 
 // An input with what its stays waited: all, by the tables, and one by one, each with at most so many of its waits, if they are
 // listed.

@@ -1,10 +1,9 @@
 //! Who was in the way: a sentence on the pair that cost most, and the tables.
 
 use crate::text::columns::{push_caption, push_spelled};
-use blame::BlameRow;
 use recording_file::Span;
 use std::alloc::{AllocError, Global};
-use wait_causes::Grouping;
+use wait_causes::{BlameRow, Grouping};
 use wording::{Captions, Page, push_number, push_rounds, push_span};
 
 // What stands above the columns.

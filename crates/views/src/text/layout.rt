@@ -12,12 +12,13 @@ use crate::text::tables::push_tables;
 use crate::text::totals::{push_by_weight, push_totals};
 use crate::text::weights::push_weights;
 use crate::text::worst::push_worst;
-use blame::{BlameRow, blame_of};
 use cam_types::Config;
 use recording_file::Span;
 use round_net::Net;
 use std::alloc::{AllocError, Global};
-use wait_causes::{ExplainedStay, Explanation, Freeze, Grouping, InputKind, Part};
+use wait_causes::{
+    BlameRow, ExplainedStay, Explanation, Freeze, Grouping, InputKind, Part, blame_of,
+};
 use wording::{
     ByWeight, Captions, LevelWaits, Page, level_waits, places_from_greatest, plain_words,
 };

@@ -2,11 +2,10 @@
 //! numbers may change.
 
 use crate::watched::costs::Costs;
-use blame::{BlameRow, blame_of};
 use recording_file::NameKind;
 use std::alloc::{AllocError, Global};
 use std::collections::BTreeMap;
-use wait_causes::{Explanation, Grouping};
+use wait_causes::{BlameRow, Explanation, Grouping, blame_of};
 
 /// How many run levels there are.
 pub const LEVELS: u32 = 5;

@@ -1,5 +1,5 @@
 use Rattle.std.proofs.Common.{◌≡◌, ℕ, ◌<◌, List, length, get_or, ◌∙◌, ap, map, subst}
-use Rattle.turns.specs.Turns.{AreInTurnWithin, AreSpared}
+use Rattle.cost_plan.specs.Turns.{AreInTurnWithin, AreSpared}
 use Rattle.cost_plan.specs.Words.{instance_of_rows}
 use Rattle.cost_plan.proofs.KindLemmas.{IsKindTurned-made, windows-kind, ends-kind, long-kind}
 use Rattle.cost_plan.proofs.one_kind.turn_kind.Goals as goal

@@ -1,7 +1,0 @@
-use Rattle.std.proofs.Common.{◌≡◌, flat_map}
-use Rattle.blame.specs.Lists.{stays_in, who_in}
-use Rattle.blame.specs.Rows.{everybody, rows_for}
-use Rattle.blame.proofs.table.all_rows.Given as goal
-
-abbrev pub invariant-loop-number : goal.invariant-loop-number
-invariant-loop-number l = l.rows.items ≡ flat_map (rows_for (who_in l.explanation l.by) l.by (stays_in l.explanation) l.count) (everybody l.number)

@@ -1,5 +1,0 @@
-use Rattle.blame.proofs.TotalLemmas.{AreCounts}
-use Rattle.blame.proofs.totals.counts_of.Given as goal
-
-abbrev pub invariant-loop-number : goal.invariant-loop-number
-invariant-loop-number l = AreCounts l.by l.list l.number-index l.counts.items l.so_far

@@ -1,5 +1,0 @@
-pub mod InTheWay
-pub mod Amounts
-pub mod Lists
-pub mod Rows
-pub mod Laws

@@ -1,4 +1,0 @@
-pub mod SlotLemmas
-pub mod SortLemmas
-pub mod TurnLemmas
-pub mod ExchangeLemmas

@@ -1,5 +1,0 @@
-use Rattle.std.proofs.Common.{◌≡◌, ℕ, ◌<◌, get_or}
-use Rattle.turns.proofs.windows.all_reach.Given as goal
-
-abbrev pub invariant-loop-last : goal.invariant-loop-last
-invariant-loop-last l = (i : ℕ) → i < l.last-index → get_or l.lasts i 0 ≡ l.end

@@ -8,7 +8,6 @@ use record_count::count_records;
 use round_net::Net;
 use std::io;
 use std::process::ExitCode;
-use std::rt::Runtime;
 use std::thread::Threads;
 use std::time::{Clock, CpuClock};
 use trace_file::read_trace;
@@ -24,8 +23,9 @@ const MOST: usize = 268_435_456;
 /// With the word `records` times the reading of the records of a trace or a recording, with `plan` a best plan, made alone and with its adapters
 /// planned at once, with `check` the check of that plan and its prices, and with no word all three. With `net` prints the
 /// trace's net instead.
-pub fn time<R: Runtime + AllocGlobal + Threads + Clock + CpuClock + Sync>(
-    rt: &R,
+pub fn time<T: Threads + Clock + CpuClock + AllocGlobal + Print + Eprint + Sync>(
+    rt: &HostRuntime,
+    threads: &T,
     word: Option<&str>,
 ) -> io::Result<ExitCode> {
     let Ok(text) = read_within(rt.alloc(), &mut Watched::new(rt.reader()), MOST) else {
@@ -38,12 +38,12 @@ pub fn time<R: Runtime + AllocGlobal + Threads + Clock + CpuClock + Sync>(
         return refused(rt, "no net");
     };
     match word {
-        Some("plan") => time_plans(rt, &net),
+        Some("plan") => time_plans(threads, &net),
         Some("check") => time_checks(rt, &net),
         Some(_) => print_net(rt, &net),
         None => {
             count_records(rt, &text)?;
-            time_plans(rt, &net)?;
+            time_plans(threads, &net)?;
             time_checks(rt, &net)
         }
     }

@@ -5,7 +5,6 @@
 
 use lock::fault::Fault;
 use std::process::ExitCode;
-use std::rt::Runtime;
 use std::sync::Wait;
 use std::thread::Threads;
 use std::time::{Clock, CpuClock};
@@ -16,7 +15,7 @@ mod lock;
 mod queues;
 
 fn main(rt: HostRuntime) -> io::Result<ExitCode> {
-    match obey(&rt) {
+    match obey(&rt, &rt) {
         Ok(status) => Ok(status),
         Err(fault) => {
             eprintln!(rt; "benches: {fault}")?;
@@ -25,32 +24,35 @@ fn main(rt: HostRuntime) -> io::Result<ExitCode> {
     }
 }
 
-fn obey<R: Runtime + AllocGlobal + Threads + Wait + Clock + CpuClock + Sync>(
-    rt: &R,
+fn obey<T: Threads + Wait + Clock + CpuClock + AllocGlobal + Print + Eprint + Sync>(
+    rt: &HostRuntime,
+    threads: &T,
 ) -> Result<ExitCode, Fault> {
     let words: Vec<String> = env::args(rt)?.collect(rt.alloc())?;
     match words.get(1) {
-        Some(word) => time_part(rt, word),
-        None => time_all(rt),
+        Some(word) => time_part(rt, threads, word),
+        None => time_all(rt, threads),
     }
 }
 
-fn time_all<R: Runtime + AllocGlobal + Threads + Wait + Clock + CpuClock + Sync>(
-    rt: &R,
+fn time_all<T: Threads + Wait + Clock + CpuClock + AllocGlobal + Print + Eprint + Sync>(
+    rt: &HostRuntime,
+    threads: &T,
 ) -> Result<ExitCode, Fault> {
-    lock::time(rt)?;
+    lock::time(threads)?;
     queues::time(rt)?;
-    Ok(audit::time(rt, None)?)
+    Ok(audit::time(rt, threads, None)?)
 }
 
-fn time_part<R: Runtime + AllocGlobal + Threads + Wait + Clock + CpuClock + Sync>(
-    rt: &R,
+fn time_part<T: Threads + Wait + Clock + CpuClock + AllocGlobal + Print + Eprint + Sync>(
+    rt: &HostRuntime,
+    threads: &T,
     word: &str,
 ) -> Result<ExitCode, Fault> {
     match word {
         "queues" => queues::time(rt)?,
-        "lock" => lock::time(rt)?,
-        _ => return Ok(audit::time(rt, Some(word))?),
+        "lock" => lock::time(threads)?,
+        _ => return Ok(audit::time(rt, threads, Some(word))?),
     }
     Ok(ExitCode::SUCCESS)
 }

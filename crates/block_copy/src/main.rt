@@ -15,7 +15,6 @@ use cam_types::{Config, ConfigError, Device, Limits, Watched};
 use std::alloc::Global;
 use std::marker::Brand;
 use std::process::ExitCode;
-use std::rt::Runtime;
 use std::sync::Wait;
 use std::sync::ledger::{Blank, Ledger};
 use std::thread::Threads;
@@ -29,7 +28,7 @@ mod crew;
 mod fault;
 
 fn main(rt: HostRuntime) -> io::Result<ExitCode> {
-    match run(&rt) {
+    match run(&rt, &rt) {
         Ok(()) => Ok(ExitCode::SUCCESS),
         Err(fault) => {
             eprintln!(rt; "block_copy: {fault}")?;
@@ -38,11 +37,11 @@ fn main(rt: HostRuntime) -> io::Result<ExitCode> {
     }
 }
 
-fn run<R: Runtime + AllocGlobal + Threads + Wait + Sync>(rt: &R) -> Result<(), Fault> {
+fn run<T: Threads + Wait + Sync>(rt: &HostRuntime, threads: &T) -> Result<(), Fault> {
     let alloc = rt.alloc();
     let blocks = Blocks::new(alloc)?;
-    let history = copy::<Brand, R>(rt, alloc, &blocks, Blank::new(65))?;
-    if let Some(number) = blocks.first_difference(rt) {
+    let history = copy::<Brand, T>(threads, alloc, &blocks, Blank::new(65))?;
+    if let Some(number) = blocks.first_difference(threads) {
         return Err(Fault::Differs(number));
     }
     let words: Vec<String> = env::args(rt)?.collect(alloc)?;

@@ -1,6 +1,6 @@
 //! Makes a recording of captures.
 
-ghost use Rattle.std.specs.Prelude.{◌≡◌, IfOk};
+ghost use Rattle.std.specs.Prelude.{◌≡◌};
 ghost use Rattle.capture.specs.Rounds.{in_rounds};
 
 use crate::import_fault::ImportFault;
@@ -33,12 +33,11 @@ use slots::SlotsFault;
 use std::alloc::{AllocError, Global};
 use std::fs::File;
 use std::process::ExitCode;
-use std::rt::Runtime;
 use window_recordings::value_of;
 
 /// Reads the files that the words name and prints their recording. Says on standard error what a round is, what was counted, and
 /// what to beware of; or why there is none, and what helps to find that if it is asked for.
-pub fn import<R: Runtime + AllocGlobal>(rt: &R, words: &ArgMatches<'_>) -> ExitCode {
+pub fn import(rt: &HostRuntime, words: &ArgMatches<'_>) -> ExitCode {
     let tolerance = tolerance_of(words, Tolerance::Few);
     let mut refused = Refused::new(rt.alloc(), tolerance.unwrap_or(Tolerance::Few));
     match tolerance.and_then(|_| imported(rt, words, &mut refused)) {
@@ -48,8 +47,8 @@ pub fn import<R: Runtime + AllocGlobal>(rt: &R, words: &ArgMatches<'_>) -> ExitC
 }
 
 /// Says why a capture isn't imported, and what helps to find that if it is asked for. If a line is refused, `line` has it.
-pub fn tell_fault<R: Runtime + AllocGlobal>(
-    rt: &R,
+pub fn tell_fault(
+    rt: &HostRuntime,
     words: &ArgMatches<'_>,
     fault: &ImportFault,
     line: &[u8],
@@ -77,8 +76,8 @@ fn subject<'w>(words: &'w ArgMatches<'_>, fault: &ImportFault) -> Option<&'w str
     }
 }
 
-fn imported<R: Runtime + AllocGlobal>(
-    rt: &R,
+fn imported(
+    rt: &HostRuntime,
     words: &ArgMatches<'_>,
     refused: &mut Refused,
 ) -> Result<(), ImportFault> {
@@ -92,7 +91,14 @@ fn imported<R: Runtime + AllocGlobal>(
     warn_missing(rt, &options, &read);
     warn_columns(rt, &read);
     let round = round_for(rt.alloc(), options.round, &read)?;
-    let capture = capture_of(rt.alloc(), round, &read)?;
+    let round = Span {
+        count: round.count.max(1),
+        ..round
+    };
+    let capture = match Capture::of(rt.alloc(), round, &read.requests) {
+        Ok(capture) => capture,
+        Err(fault) => return Err(unfit(rt.alloc(), round, &read, fault)),
+    };
     let rooms = rooms_of(rt.alloc(), &options, &capture, &read)?;
     let recording = options.layout.recording(
         rt.alloc(),
@@ -117,12 +123,12 @@ fn imported<R: Runtime + AllocGlobal>(
 
 /// The files of a capture, by their names.
 #[derive(Drop)]
-pub struct Files<'r, 'w, 'a, R> {
-    pub rt: &'r R,
+pub struct Files<'r, 'w, 'a> {
+    pub rt: &'r HostRuntime,
     pub words: &'w ArgMatches<'a>,
 }
 
-impl<R: Runtime + AllocGlobal> Files<'_, '_, '_, R> {
+impl Files<'_, '_, '_> {
     // Reads all of them.
     fn read(&self, options: &ImportOptions, refused: &mut Refused) -> Result<Read, ImportFault> {
         if let Some(mut reader) = self.reader(options) {
@@ -278,22 +284,18 @@ fn checked_round(round: Span, read: &Read) -> Result<Span, ImportFault> {
     Ok(round)
 }
 
-// The requests in rounds. If there are too many rounds, the fault has a longer round that fits, unless that hides the waits.
-fn capture_of(alloc: Global, round: Span, read: &Read) -> Result<Capture, ImportFault>
-    ensures { IfOk result (λ c. c ≡ in_rounds c.unit read.now.requests.items) }
-{
-    let round = Span {
-        count: round.count.max(1),
-        ..round
+// Why the requests have no recording in these rounds. If there are too many rounds, the fault has a longer round that fits, unless
+// that hides the waits.
+fn unfit(alloc: Global, round: Span, read: &Read, fault: CaptureFault) -> ImportFault {
+    let CaptureFault::TooManyRounds(rounds) = fault else {
+        return fault.into();
     };
-    match Capture::of(alloc, round, &read.requests) {
-        Ok(capture) => Ok(capture),
-        Err(CaptureFault::TooManyRounds(rounds)) => {
-            let fit = short_from(shortest_round(alloc, &read.requests)?);
-            let fit = fit.filter(|fit| checked_round(*fit, read).is_ok());
-            Err(ImportFault::TooManyRounds(rounds, round, fit))
+    match shortest_round(alloc, &read.requests) {
+        Ok(fit) => {
+            let fit = short_from(fit).filter(|fit| checked_round(*fit, read).is_ok());
+            ImportFault::TooManyRounds(rounds, round, fit)
         }
-        Err(fault) => Err(fault.into()),
+        Err(error) => error.into(),
     }
 }
 

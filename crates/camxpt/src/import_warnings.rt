@@ -12,13 +12,12 @@ use clap::ArgMatches;
 use recording_file::{PartKind, Recording, Span};
 use slots::Slots;
 use std::alloc::{AllocError, Global};
-use std::rt::Runtime;
 use views::shown_name;
 use window_recordings::value_of;
 use wording::{Page, push_nanoseconds};
 
 /// Says which line was refused first, and why, if lines were left out.
-pub fn tell_refused<R: Runtime + AllocGlobal>(rt: &R, words: &ArgMatches<'_>, refused: &Refused) {
+pub fn tell_refused(rt: &HostRuntime, words: &ArgMatches<'_>, refused: &Refused) {
     if let Some((place, number, fault)) = refused.first() {
         let _ = rt.eprintln(format_args!("camxpt: the first line that was refused: {fault}"));
         let name = word_at(words, "FILE", place);
@@ -27,7 +26,7 @@ pub fn tell_refused<R: Runtime + AllocGlobal>(rt: &R, words: &ArgMatches<'_>, re
 }
 
 /// Says what a round is, how many there are, and what was left out.
-pub fn tell_counts<R: Runtime>(rt: &R, round: Span, recording: &Recording, counts: &Counts) {
+pub fn tell_counts(rt: &HostRuntime, round: Span, recording: &Recording, counts: &Counts) {
     let _ = rt.eprintln(format_args!(
         "camxpt: {} requests in {} rounds of {} {}",
         recording.requests().len(),
@@ -68,7 +67,7 @@ pub fn tell_counts<R: Runtime>(rt: &R, round: Span, recording: &Recording, count
 }
 
 /// Says how many requests were started before they arrived, by the clocks of two processors.
-pub fn tell_early<R: Runtime>(rt: &R, counts: &Counts) {
+pub fn tell_early(rt: &HostRuntime, counts: &Counts) {
     let count = counts.early_starts;
     if count > 0 {
         let _ = rt.eprintln(format_args!(
@@ -78,14 +77,14 @@ pub fn tell_early<R: Runtime>(rt: &R, counts: &Counts) {
 }
 
 // A warning of something that has a name.
-fn warn<R: Runtime + AllocGlobal>(rt: &R, before: &str, name: &str, after: &str) {
+fn warn(rt: &HostRuntime, before: &str, name: &str, after: &str) {
     if let Ok(name) = shown_name(rt.alloc(), name) {
         let _ = rt.eprintln(format_args!("camxpt: warning: {before} {name}{after}"));
     }
 }
 
 /// Warns of options that name a driver or device that no request has.
-pub fn warn_missing<R: Runtime + AllocGlobal>(rt: &R, options: &ImportOptions, read: &Read) {
+pub fn warn_missing(rt: &HostRuntime, options: &ImportOptions, read: &Read) {
     for (name, _) in &options.taken.drivers {
         warn_unknown(rt, "--driver names", name, &read.drivers);
     }
@@ -112,8 +111,8 @@ pub struct SeenSlots {
 
 /// Says of each device that isn't rated how many slots it had, how long it served a request, and how many starts more it had room
 /// for; or that nobody knows that.
-pub fn tell_rooms<R: Runtime + AllocGlobal>(
-    rt: &R,
+pub fn tell_rooms(
+    rt: &HostRuntime,
     options: &ImportOptions,
     names: &[String],
     seen: &[Option<SeenSlots>],
@@ -133,7 +132,7 @@ pub fn tell_rooms<R: Runtime + AllocGlobal>(
     }
 }
 
-fn tell_slots<R: Runtime + AllocGlobal>(rt: &R, name: &str, seen: SeenSlots) {
+fn tell_slots(rt: &HostRuntime, name: &str, seen: SeenSlots) {
     let (slots, spare) = (seen.slots.slots, seen.starts);
     let (slot, start) = (
         if slots == 1 { "slot" } else { "slots" },
@@ -148,14 +147,14 @@ fn tell_slots<R: Runtime + AllocGlobal>(rt: &R, name: &str, seen: SeenSlots) {
     }
 }
 
-fn warn_unknown<R: Runtime + AllocGlobal>(rt: &R, option: &str, name: &str, known: &[String]) {
+fn warn_unknown(rt: &HostRuntime, option: &str, name: &str, known: &[String]) {
     if !known.iter().any(|other| other.as_str() == name) {
         warn(rt, option, name, ", of which there is no request");
     }
 }
 
 /// Warns of the columns of a table that aren't read: of eight, and how many more there are.
-pub fn warn_columns<R: Runtime + AllocGlobal>(rt: &R, read: &Read) {
+pub fn warn_columns(rt: &HostRuntime, read: &Read) {
     if read.other_columns.is_empty() {
         return;
     }
@@ -181,7 +180,7 @@ fn column_names(alloc: Global, names: &[String]) -> Result<String, AllocError> {
 }
 
 /// Warns of waits that are too short for a round, and of devices whose requests are all of one weight, or of very different sizes.
-pub fn warn_read<R: Runtime + AllocGlobal>(rt: &R, round: Span, read: &Read) {
+pub fn warn_read(rt: &HostRuntime, round: Span, read: &Read) {
     if let Some(most) = longest_round(&read.requests)
         && span_nanoseconds(round) > most
     {
@@ -196,7 +195,7 @@ pub fn warn_read<R: Runtime + AllocGlobal>(rt: &R, round: Span, read: &Read) {
     }
 }
 
-fn warn_of_device<R: Runtime + AllocGlobal>(rt: &R, read: &Read, number: u32, name: &str) {
+fn warn_of_device(rt: &HostRuntime, read: &Read, number: u32, name: &str) {
     if has_one_weight(read, number) {
         warn(
             rt,
@@ -238,8 +237,8 @@ fn weight_of(priority: u32) -> u32 {
 }
 
 /// Warns of devices that are rated at fewer openings than they took in some round.
-pub fn warn_recorded<R: Runtime + AllocGlobal>(
-    rt: &R,
+pub fn warn_recorded(
+    rt: &HostRuntime,
     options: &ImportOptions,
     read: &Read,
     recording: &Recording,

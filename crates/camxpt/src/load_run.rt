@@ -11,7 +11,7 @@ use std::alloc::Global;
 use std::io::Read;
 
 /// Says on standard error what the script of a load leaves out, and where a run of it may differ.
-pub fn tell_left_out<R: Eprint>(rt: &R, made: &Scripted) {
+pub fn tell_left_out(rt: &HostRuntime, made: &Scripted) {
     for (count, before, after) in [
         (
             made.settings,

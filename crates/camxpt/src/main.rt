@@ -44,5 +44,5 @@ mod words;
 
 fn main(rt: HostRuntime) -> ExitCode {
     let on_terminal = rt.stderr().is_terminal();
-    program::run(&rt, on_terminal)
+    program::run(&rt, &rt, on_terminal)
 }

@@ -8,7 +8,6 @@ use recording_file::RecordingFault;
 use report_text::ReportFault;
 use std::alloc::Global;
 use std::process::ExitCode;
-use std::rt::Runtime;
 use std::{fmt, io};
 use trace_file::TraceFault;
 use views::{recording_note, report_note, shown_name, trace_note, unsent_note};
@@ -17,13 +16,13 @@ use views::{recording_note, report_note, shown_name, trace_note, unsent_note};
 pub const STANDARD_OUTPUT: &str = "standard output";
 
 /// Says why the program failed. Answers the status that says so.
-pub fn tell<R: Runtime>(rt: &R, failure: &Failure) -> ExitCode {
+pub fn tell(rt: &HostRuntime, failure: &Failure) -> ExitCode {
     let _ = rt.eprintln(format_args!("camxpt: {failure}"));
     failure.exit_code()
 }
 
 /// Says what the fault of a file is, with the file's name.
-pub fn tell_of<R: Runtime + AllocGlobal, F: fmt::Display>(rt: &R, name: &str, fault: &F) {
+pub fn tell_of<F: fmt::Display>(rt: &HostRuntime, name: &str, fault: &F) {
     let _ = match shown_name(rt.alloc(), title(name)) {
         Ok(name) => rt.eprintln(format_args!("camxpt: {name}: {fault}")),
         Err(_) => rt.eprintln(format_args!("camxpt: {fault}")),
@@ -31,7 +30,7 @@ pub fn tell_of<R: Runtime + AllocGlobal, F: fmt::Display>(rt: &R, name: &str, fa
 }
 
 /// Prints a note, if there is one.
-pub fn tell_note<R: Runtime>(rt: &R, note: Option<String>) {
+pub fn tell_note(rt: &HostRuntime, note: Option<String>) {
     if let Some(note) = note {
         let _ = rt.eprint(&note);
     }

@@ -48,7 +48,7 @@ impl<W: Write> Write for Output<W> {
 }
 
 /// Standard output, to which nothing was written yet.
-pub fn standard_output<R: Print>(rt: &R) -> Output<io::Printer<'_, R>> {
+pub fn standard_output(rt: &HostRuntime) -> Output<io::Printer<'_, HostRuntime>> {
     Output {
         device: io::writer(rt),
         failed: None,

@@ -28,7 +28,6 @@ use sim_worker::Ending;
 use std::io;
 use std::io::Read;
 use std::process::ExitCode;
-use std::rt::Runtime;
 use std::sync::Wait;
 use std::thread::Threads;
 use views::shown_lines;
@@ -44,24 +43,22 @@ const NOT_DRAINED: u8 = 7;
 
 /// Does what the words of the command line ask, and says on standard error why it didn't. If that is a terminal, a long run
 /// shows there how far it is.
-pub fn run<R: Runtime + AllocGlobal + Threads + Wait + Sync>(
-    rt: &R,
-    on_terminal: bool,
-) -> ExitCode {
-    match read_and_obey(rt, on_terminal) {
+pub fn run<T: Threads + Wait + Sync>(rt: &HostRuntime, threads: &T, on_terminal: bool) -> ExitCode {
+    match read_and_obey(rt, threads, on_terminal) {
         Ok(status) => status,
         Err(failure) => tell(rt, &failure),
     }
 }
 
-fn read_and_obey<R: Runtime + AllocGlobal + Threads + Wait + Sync>(
-    rt: &R,
+fn read_and_obey<T: Threads + Wait + Sync>(
+    rt: &HostRuntime,
+    threads: &T,
     on_terminal: bool,
 ) -> Result<ExitCode, Failure> {
     let words = words(rt)?;
     let command = command(rt.alloc())?;
     match command.try_get_matches_from(words.as_slice()) {
-        Ok(matches) => obey(rt, &matches, on_terminal),
+        Ok(matches) => obey(rt, threads, &matches, on_terminal),
         Err(error) if error.kind() == ErrorKind::OutOfMemory => {
             Err(Failure::Audit(AuditFault::OutOfMemory))
         }
@@ -71,7 +68,7 @@ fn read_and_obey<R: Runtime + AllocGlobal + Threads + Wait + Sync>(
 
 // Prints help or the version, or why the words are refused: then the status is 2, whether or not this can be printed. It may have
 // a word as it was given, whose control characters are escaped.
-fn show<R: Runtime + AllocGlobal>(rt: &R, error: &clap::Error) -> Result<ExitCode, Failure> {
+fn show(rt: &HostRuntime, error: &clap::Error) -> Result<ExitCode, Failure> {
     if error.use_stderr() {
         let text = format!(in rt.alloc(); "{error}")?;
         let _ = rt.eprint(&shown_lines(rt.alloc(), &text)?);
@@ -87,8 +84,8 @@ fn show<R: Runtime + AllocGlobal>(rt: &R, error: &clap::Error) -> Result<ExitCod
 }
 
 // Says why the program failed, and after that line the system's reason with the name of what it is of, if that is asked for.
-fn tell_reason<R: Runtime + AllocGlobal>(
-    rt: &R,
+fn tell_reason(
+    rt: &HostRuntime,
     failure: &Failure,
     name: &str,
     reason: io::Error,
@@ -103,8 +100,8 @@ fn tell_reason<R: Runtime + AllocGlobal>(
 
 // Says why the program failed, and after that line what helps to find the fault, if that is asked for: where it stands and what
 // stands there, or why a read or write failed.
-fn tell_on<R: Runtime + AllocGlobal, D, W>(
-    rt: &R,
+fn tell_on<D, W>(
+    rt: &HostRuntime,
     failure: &Failure,
     input: &Source<'_, D>,
     out: &Output<W>,
@@ -126,15 +123,16 @@ fn tell_on<R: Runtime + AllocGlobal, D, W>(
 }
 
 // The exit status of what the command line asks.
-fn obey<R: Runtime + AllocGlobal + Threads + Wait + Sync>(
-    rt: &R,
+fn obey<T: Threads + Wait + Sync>(
+    rt: &HostRuntime,
+    threads: &T,
     matches: &ArgMatches<'_>,
     on_terminal: bool,
 ) -> Result<ExitCode, Failure> {
     let Some((name, words)) = matches.subcommand() else {
-        return over_input(rt, on_terminal);
+        return over_input(rt, threads, on_terminal);
     };
-    let failure = match obey_words(rt, name, words, on_terminal) {
+    let failure = match obey_words(rt, threads, name, words, on_terminal) {
         Ok(status) => return Ok(status),
         Err(failure) => failure,
     };
@@ -160,8 +158,9 @@ fn obey<R: Runtime + AllocGlobal + Threads + Wait + Sync>(
 }
 
 // The exit status of the subcommand of this name with these words.
-fn obey_words<R: Runtime + AllocGlobal + Threads + Wait + Sync>(
-    rt: &R,
+fn obey_words<T: Threads + Wait + Sync>(
+    rt: &HostRuntime,
+    threads: &T,
     name: &str,
     words: &ArgMatches<'_>,
     on_terminal: bool,
@@ -180,21 +179,21 @@ fn obey_words<R: Runtime + AllocGlobal + Threads + Wait + Sync>(
     };
     if let Some(run) = trace_run(name, words, rounds, &limits, &rows) {
         let trace = open(rt, words, Argument::Trace)?;
-        return over_trace(rt, trace, run, on_terminal);
+        return over_trace(rt, threads, trace, run, on_terminal);
     }
     match name {
         "sim" => {
             let seed = words.get_one("SEED").unwrap_or(0);
-            over_script(rt, words, ScriptRun::Sim { seed })
+            over_script(rt, threads, words, ScriptRun::Sim { seed })
         }
-        "run" => over_script(rt, words, ScriptRun::Live { on_terminal }),
+        "run" => over_script(rt, threads, words, ScriptRun::Live { on_terminal }),
         "prove" => over_report(rt, words),
-        "compare" => compare(rt, words, on_terminal),
-        "sweep" => sweep_script(rt, words, on_terminal),
+        "compare" => compare(rt, threads, words, on_terminal),
+        "sweep" => sweep_script(rt, threads, words, on_terminal),
         "completions" => complete(rt, words.get_str("SHELL").unwrap_or("")),
         "import" => Ok(import(rt, words)),
         "watch" => Ok(watch(rt, words)),
-        _ => over_input(rt, on_terminal),
+        _ => over_input(rt, threads, on_terminal),
     }
 }
 
@@ -243,12 +242,14 @@ fn trace_run<'a>(
 }
 
 // Prints the summary of the audit of the trace on standard input.
-fn over_input<R: Runtime + AllocGlobal + Threads + Sync>(
-    rt: &R,
+fn over_input<T: Threads + Sync>(
+    rt: &HostRuntime,
+    threads: &T,
     on_terminal: bool,
 ) -> Result<ExitCode, Failure> {
     over_trace(
         rt,
+        threads,
         input(rt),
         TraceRun::Audit { summary: true },
         on_terminal,
@@ -256,15 +257,16 @@ fn over_input<R: Runtime + AllocGlobal + Threads + Sync>(
 }
 
 // What a run does with the trace that is open. A word that it refuses is told by the caller.
-fn over_trace<R: Runtime + AllocGlobal + Threads + Sync, D: Read + Drop>(
-    rt: &R,
+fn over_trace<T: Threads + Sync, D: Read + Drop>(
+    rt: &HostRuntime,
+    threads: &T,
     mut trace: Source<'_, D>,
     run: TraceRun<'_>,
     on_terminal: bool,
 ) -> Result<ExitCode, Failure> {
     let mut out = standard_output(rt);
     let line = ProgressLine::new(rt, on_terminal);
-    let done = run.over(rt, &line, &mut trace, &mut out);
+    let done = run.over(rt, threads, &line, &mut trace, &mut out);
     line.clear();
     match done {
         Ok(()) => Ok(ExitCode::SUCCESS),
@@ -274,10 +276,7 @@ fn over_trace<R: Runtime + AllocGlobal + Threads + Sync, D: Read + Drop>(
 }
 
 // The status is 1 for a report that isn't proved.
-fn over_report<R: Runtime + AllocGlobal + Threads + Sync>(
-    rt: &R,
-    words: &ArgMatches<'_>,
-) -> Result<ExitCode, Failure> {
+fn over_report(rt: &HostRuntime, words: &ArgMatches<'_>) -> Result<ExitCode, Failure> {
     let Both {
         first: mut trace,
         second: mut report,
@@ -296,14 +295,15 @@ fn over_report<R: Runtime + AllocGlobal + Threads + Sync>(
     }
 }
 
-fn over_script<R: Runtime + AllocGlobal + Threads + Wait + Sync>(
-    rt: &R,
+fn over_script<T: Threads + Wait + Sync>(
+    rt: &HostRuntime,
+    threads: &T,
     words: &ArgMatches<'_>,
     run: ScriptRun,
 ) -> Result<ExitCode, Failure> {
     let mut script = open(rt, words, Argument::Script)?;
     let mut out = standard_output(rt);
-    match run.over(rt, &mut script, &mut out) {
+    match run.over(rt, threads, &mut script, &mut out) {
         Ok(ending) => {
             let _ = rt.eprintln(format_args!("ending {ending}"));
             let has_to_drain = words.get_flag("require-drained");
@@ -318,7 +318,7 @@ fn over_script<R: Runtime + AllocGlobal + Threads + Wait + Sync>(
     }
 }
 
-fn complete<R: Runtime + AllocGlobal>(rt: &R, name: &str) -> Result<ExitCode, Failure> {
+fn complete(rt: &HostRuntime, name: &str) -> Result<ExitCode, Failure> {
     let Some(shell) = Shell::named(name) else {
         return Err(Failure::NoShell);
     };

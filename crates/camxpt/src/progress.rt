@@ -1,7 +1,5 @@
 //! Shows on a terminal how far a run, a sweep or an audit is.
 
-ghost use Rattle.std.specs.Prelude.{◌≡◌};
-
 use cost_plan::{Done, PlanProgress};
 use sim_worker::Progress;
 use std::alloc::AllocError;
@@ -9,7 +7,7 @@ use std::fmt::Display;
 use std::io;
 use std::io::{Read, Write};
 use std::sync::atomic::{AtomicU64, Ordering};
-use std::time::{Clock, Instant};
+use std::time::Instant;
 use sweep::{Runner, Tally};
 use trace_file::Script;
 use xpt_state::Look;
@@ -24,17 +22,17 @@ const NEVER: u64 = u64::MAX;
 
 /// A line on standard error that says how far a run, a sweep or an audit is, if that is a terminal and it takes more than a second.
 #[derive(Drop)]
-pub struct ProgressLine<'a, R> {
-    rt: &'a R,
+pub struct ProgressLine<'a> {
+    rt: &'a HostRuntime,
     // When it began, if it is to be shown.
     start: Option<Instant>,
     // When the next line is due, in milliseconds from the start.
     due: AtomicU64,
 }
 
-impl<'a, R: Clock + Eprint> ProgressLine<'a, R> {
+impl<'a> ProgressLine<'a> {
     /// The line of what begins now.
-    pub fn new(rt: &'a R, on_terminal: bool) -> ProgressLine<'a, R> {
+    pub fn new(rt: &'a HostRuntime, on_terminal: bool) -> ProgressLine<'a> {
         let start = if on_terminal {
             Instant::now(rt).ok()
         } else {
@@ -82,7 +80,7 @@ impl<'a, R: Clock + Eprint> ProgressLine<'a, R> {
     }
 }
 
-impl<R: Clock + Eprint> Progress for ProgressLine<'_, R> {
+impl Progress for ProgressLine<'_> {
     fn show(&self, look: Look) {
         let left = u64::from(look.waiting) + u64::from(look.in_flight) + u64::from(look.cases);
         self.put(format_args!(
@@ -92,7 +90,7 @@ impl<R: Clock + Eprint> Progress for ProgressLine<'_, R> {
     }
 }
 
-impl<R: Clock + Eprint> PlanProgress for ProgressLine<'_, R> {
+impl PlanProgress for ProgressLine<'_> {
     fn begun(&self, _adapter: u32) {}
 
     fn mended(&self, mended: u32, rounds: u32) {
@@ -121,15 +119,15 @@ fn hundredths(done: Done) -> u64 {
 
 /// A reader whose line says how much of it was read.
 #[derive(Drop)]
-pub struct CountedReader<'a, 'b, S, R> {
+pub struct CountedReader<'a, 'b, S> {
     source: S,
-    line: &'a ProgressLine<'b, R>,
+    line: &'a ProgressLine<'b>,
     bytes: u64,
 }
 
-impl<'a, 'b, S, R> CountedReader<'a, 'b, S, R> {
+impl<'a, 'b, S> CountedReader<'a, 'b, S> {
     /// A reader of which nothing was read yet.
-    pub fn new(source: S, line: &'a ProgressLine<'b, R>) -> CountedReader<'a, 'b, S, R> {
+    pub fn new(source: S, line: &'a ProgressLine<'b>) -> CountedReader<'a, 'b, S> {
         CountedReader {
             source,
             line,
@@ -138,7 +136,7 @@ impl<'a, 'b, S, R> CountedReader<'a, 'b, S, R> {
     }
 }
 
-impl<S: Read, R: Clock + Eprint> Read for CountedReader<'_, '_, S, R> {
+impl<S: Read> Read for CountedReader<'_, '_, S> {
     ghost remaining = { λ s. S.remaining s.source };
 
     /// Reads as the source does.
@@ -153,19 +151,19 @@ impl<S: Read, R: Clock + Eprint> Read for CountedReader<'_, '_, S, R> {
 
 /// A writer before whose first bytes the line is cleared.
 #[derive(Drop)]
-pub struct CountedWriter<'a, 'b, W, R> {
+pub struct CountedWriter<'a, 'b, W> {
     device: W,
-    line: &'a ProgressLine<'b, R>,
+    line: &'a ProgressLine<'b>,
 }
 
-impl<'a, 'b, W, R> CountedWriter<'a, 'b, W, R> {
+impl<'a, 'b, W> CountedWriter<'a, 'b, W> {
     /// A writer to which nothing was written yet.
-    pub fn new(device: W, line: &'a ProgressLine<'b, R>) -> CountedWriter<'a, 'b, W, R> {
+    pub fn new(device: W, line: &'a ProgressLine<'b>) -> CountedWriter<'a, 'b, W> {
         CountedWriter { device, line }
     }
 }
 
-impl<W: Write, R: Clock + Eprint> Write for CountedWriter<'_, '_, W, R> {
+impl<W: Write> Write for CountedWriter<'_, '_, W> {
     ghost contents = { λ w. W.contents w.device };
 
     /// Writes as the device does.
@@ -182,15 +180,15 @@ impl<W: Write, R: Clock + Eprint> Write for CountedWriter<'_, '_, W, R> {
 
 /// The line of a table of changes, which says how many rows are made.
 #[derive(Drop)]
-pub struct CountedRows<'a, 'b, R> {
-    line: &'a ProgressLine<'b, R>,
+pub struct CountedRows<'a, 'b> {
+    line: &'a ProgressLine<'b>,
     rows: usize,
     made: AtomicU64,
 }
 
-impl<'a, 'b, R> CountedRows<'a, 'b, R> {
+impl<'a, 'b> CountedRows<'a, 'b> {
     /// The line of so many rows, of which none is made.
-    pub fn new(line: &'a ProgressLine<'b, R>, rows: usize) -> CountedRows<'a, 'b, R> {
+    pub fn new(line: &'a ProgressLine<'b>, rows: usize) -> CountedRows<'a, 'b> {
         CountedRows {
             line,
             rows,
@@ -199,7 +197,7 @@ impl<'a, 'b, R> CountedRows<'a, 'b, R> {
     }
 }
 
-impl<R: Clock + Eprint> what_if::Progress for CountedRows<'_, '_, R> {
+impl what_if::Progress for CountedRows<'_, '_> {
     fn row_made(&self) {
         let made = self.made.fetch_add(1, Ordering::Relaxed).saturating_add(1);
         self.line.put(format_args!("{made} of {} rows", self.rows));
@@ -208,28 +206,18 @@ impl<R: Clock + Eprint> what_if::Progress for CountedRows<'_, '_, R> {
 
 /// Who runs scripts as another does, and whose line says how many runs are over.
 #[derive(Drop)]
-pub struct CountedRunner<'a, 'b, W, R> {
-    runner: W,
-    line: &'a ProgressLine<'b, R>,
-    runs: u32,
-    over: AtomicU64,
+pub struct CountedRunner<'a, 'b, W> {
+    /// The other.
+    pub runner: W,
+    /// The line.
+    pub line: &'a ProgressLine<'b>,
+    /// How many runs there are in all.
+    pub runs: u32,
+    /// How many of them are over.
+    pub over: AtomicU64,
 }
 
-impl<'a, 'b, W, R> CountedRunner<'a, 'b, W, R> {
-    /// Runs scripts as this runner does, so many times in all.
-    pub fn new(runner: W, line: &'a ProgressLine<'b, R>, runs: u32) -> CountedRunner<'a, 'b, W, R>
-        ensures { result.runner ≡ runner }
-    {
-        CountedRunner {
-            runner,
-            line,
-            runs,
-            over: AtomicU64::new(0),
-        }
-    }
-}
-
-impl<W: Runner, R: Clock + Eprint> Runner for CountedRunner<'_, '_, W, R> {
+impl<W: Runner> Runner for CountedRunner<'_, '_, W> {
     ghost comes_to = { λ r. W.comes_to r.runner };
 
     /// Runs as the runner does.

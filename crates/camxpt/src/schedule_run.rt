@@ -1,8 +1,7 @@
 //! The recording as another order would have started its requests.
 
-ghost use Rattle.std.specs.Prelude.{◌≡◌, length, IfOk, false};
+ghost use Rattle.std.specs.Prelude.{◌≡◌, false};
 ghost use Rattle.cam_types.specs.Watched.{has_failed};
-ghost use Rattle.round_net.specs.Rows.{instance_of_rows};
 
 use crate::failure::Failure;
 use crate::progress::ProgressLine;
@@ -12,11 +11,10 @@ use conversions::{recording_of, rescheduled};
 use cost_plan::plan_with;
 use orders::{Order, ordered};
 use recording_file::Recording;
-use round_net::{Net, NetFault, Schedule};
+use round_net::{Net, NetFault};
 use std::alloc::Global;
 use std::io::Read;
 use std::thread::Threads;
-use std::time::Clock;
 
 /// The word of the order in which who came first goes first.
 pub const FIRST_COME: &str = "first-come";
@@ -49,49 +47,39 @@ impl NewOrder {
     }
 
     /// The recording, or that of a trace, with its requests started by this order.
-    pub fn over<R: AllocGlobal + Threads + Clock + Eprint + Sync, D: Read>(
+    pub fn over<T: Threads + Sync, D: Read>(
         self,
-        rt: &R,
-        line: &ProgressLine<'_, R>,
+        threads: &T,
+        alloc: Global,
+        line: &ProgressLine<'_>,
         input: &mut Watched<D>,
     ) -> Result<Recording, Failure>
         requires { has_failed input.old ≡ false }
     {
-        let recording = recorded(rt.alloc(), input)?;
-        self.started(rt, line, &recording)
+        let recording = recorded(alloc, input)?;
+        self.started(threads, alloc, line, &recording)
     }
 
     // The recording with its requests started by this order.
-    fn started<R: AllocGlobal + Threads + Clock + Eprint + Sync>(
+    fn started<T: Threads + Sync>(
         self,
-        rt: &R,
-        line: &ProgressLine<'_, R>,
+        threads: &T,
+        alloc: Global,
+        line: &ProgressLine<'_>,
         recording: &Recording,
     ) -> Result<Recording, Failure> {
-        let alloc = rt.alloc();
         let net = Net::of_recording(alloc, recording)?;
-        let schedule = self.schedule(rt, line, &net)?;
-        Ok(rescheduled(alloc, recording, &schedule)?)
-    }
-
-    // The schedule of this order.
-    fn schedule<R: AllocGlobal + Threads + Clock + Eprint + Sync>(
-        self,
-        rt: &R,
-        line: &ProgressLine<'_, R>,
-        net: &Net,
-    ) -> Result<Schedule, Failure>
-        ensures { IfOk result (λ s. length s ≡ (instance_of_rows net.now).stays) }
-    {
-        let alloc = rt.alloc();
         match self {
-            NewOrder::Best => Ok(plan_with(rt, alloc, net, line)?.schedule),
+            NewOrder::Best => {
+                let best = plan_with(threads, alloc, &net, line)?;
+                Ok(rescheduled(alloc, recording, &best.schedule)?)
+            }
             NewOrder::AsItComes(order) => {
-                let made = ordered(alloc, net, order)?;
+                let made = ordered(alloc, &net, order)?;
                 if made.unsent > 0 || made.late > 0 {
                     return Err(Failure::NotInTime(made.unsent, made.late));
                 }
-                Ok(made.schedule)
+                Ok(rescheduled(alloc, recording, &made.schedule)?)
             }
         }
     }

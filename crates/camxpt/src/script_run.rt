@@ -9,7 +9,6 @@ use cam_event::History;
 use cam_types::Watched;
 use sim_worker::{Ending, ScriptPort, run_live_with, sim_run};
 use std::io::{Read, Write};
-use std::rt::Runtime;
 use std::sync::Wait;
 use std::thread::Threads;
 use trace_file::{Script, read_script, write_trace};
@@ -31,9 +30,10 @@ pub enum ScriptRun {
 
 impl ScriptRun {
     /// Runs the script, writes the trace to standard output and answers how the run ended.
-    pub fn over<R: Runtime + AllocGlobal + Threads + Wait + Sync, D: Read, W: Write>(
+    pub fn over<T: Threads + Wait + Sync, D: Read, W: Write>(
         self,
-        rt: &R,
+        rt: &HostRuntime,
+        threads: &T,
         script: &mut Source<'_, D>,
         out: &mut Output<W>,
     ) -> Result<Ending, Failure> {
@@ -45,7 +45,7 @@ impl ScriptRun {
                 let run = sim_run(alloc, &script, seed)?;
                 (run.history, run.ending)
             }
-            ScriptRun::Live { on_terminal } => over_threads(rt, &script, on_terminal)?,
+            ScriptRun::Live { on_terminal } => over_threads(rt, threads, &script, on_terminal)?,
         };
         write_trace(alloc, &history, &mut Watched::new(&mut *out))?;
         Ok(ending)
@@ -53,15 +53,16 @@ impl ScriptRun {
 }
 
 // What happens if the script is run with threads, and how the run ends.
-fn over_threads<R: Runtime + AllocGlobal + Threads + Wait + Sync>(
-    rt: &R,
+fn over_threads<T: Threads + Wait + Sync>(
+    rt: &HostRuntime,
+    threads: &T,
     script: &Script,
     on_terminal: bool,
 ) -> Result<(History, Ending), Failure> {
     let alloc = rt.alloc();
     let ports = ScriptPort::for_lanes(alloc, script)?;
     let line = ProgressLine::new(rt, on_terminal);
-    let run = run_live_with(rt, alloc, script, ports, &line);
+    let run = run_live_with(threads, alloc, script, ports, &line);
     line.clear();
     let run = run?;
     Ok((run.history, run.ending))

@@ -4,11 +4,12 @@ use crate::failure::Failure;
 use crate::front::Front;
 use clap::ArgMatches;
 use either::{Either, Left, Right};
-use std::env::Env;
 use std::fs::File;
-use std::io::Read;
-use std::rt::Files;
+use std::io::{Read, StdinLock};
 use std::{env, io};
+
+/// A file, or standard input.
+pub type Device = Either<File, StdinLock<'static>>;
 
 /// The name of a file that means standard input.
 pub const STANDARD_INPUT: &str = "-";
@@ -107,21 +108,21 @@ impl<D: Read> Read for Source<'_, D> {
 }
 
 /// Whether a fault gets more than its line: by `--verbose`, or by the environment.
-pub fn is_verbose<R: Env + AllocGlobal>(rt: &R, words: &ArgMatches<'_>) -> bool {
+pub fn is_verbose(rt: &HostRuntime, words: &ArgMatches<'_>) -> bool {
     words.get_flag("verbose") || asks_more(rt)
 }
 
 /// Whether `CAMXPT_VERBOSE=1` stands in the environment.
-pub fn asks_more<R: Env + AllocGlobal>(rt: &R) -> bool {
+pub fn asks_more(rt: &HostRuntime) -> bool {
     env::var(rt, "CAMXPT_VERBOSE").is_ok_and(|value| value.as_str() == "1")
 }
 
 /// Opens the file that an argument names; `-` is standard input. What is read of it is kept if a fault gets more than its line.
-pub fn open<'a, R: Files + Input + Env + AllocGlobal>(
-    rt: &R,
+pub fn open<'a>(
+    rt: &HostRuntime,
     words: &ArgMatches<'a>,
     argument: Argument,
-) -> Result<Source<'a, Either<R::File, R::Reader>>, Failure> {
+) -> Result<Source<'a, Device>, Failure> {
     let name = argument.file_name(words);
     let device = if name == STANDARD_INPUT {
         Right(rt.reader())
@@ -142,22 +143,22 @@ pub fn open<'a, R: Files + Input + Env + AllocGlobal>(
 
 /// Two files that are read one after the other.
 #[derive(Drop)]
-pub struct Both<'a, F, S> {
+pub struct Both<'a> {
     /// The one that is read first.
-    pub first: Source<'a, Either<F, S>>,
+    pub first: Source<'a, Device>,
     /// The other one.
-    pub second: Source<'a, Either<F, S>>,
+    pub second: Source<'a, Device>,
     /// What holds the descriptor of a standard input that was closed.
-    pub folder: io::Result<F>,
+    pub folder: io::Result<File>,
 }
 
 /// Opens the files that two arguments name, before one of them is read. At most one can be standard input.
-pub fn open_both<'a, R: Files + Input + Env + AllocGlobal>(
-    rt: &R,
+pub fn open_both<'a>(
+    rt: &HostRuntime,
     words: &ArgMatches<'a>,
     first: Argument,
     second: Argument,
-) -> Result<Both<'a, R::File, R::Reader>, Failure> {
+) -> Result<Both<'a>, Failure> {
     if first.file_name(words) == STANDARD_INPUT && second.file_name(words) == STANDARD_INPUT {
         return Err(Failure::StandardInputTwice(first, second));
     }
@@ -172,7 +173,7 @@ pub fn open_both<'a, R: Files + Input + Env + AllocGlobal>(
 }
 
 /// Standard input, which is kept if the environment asks for more on a fault.
-pub fn input<R: Input + Env + AllocGlobal>(rt: &R) -> Source<'static, R::Reader> {
+pub fn input(rt: &HostRuntime) -> Source<'static, StdinLock<'static>> {
     Source {
         name: STANDARD_INPUT,
         device: rt.reader(),

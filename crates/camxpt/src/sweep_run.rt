@@ -9,10 +9,10 @@ use crate::sweep_words::{WordFault, choices_of, refusal};
 use audit_report::AuditFault;
 use cam_types::Watched;
 use clap::ArgMatches;
+use std::alloc::{AllocError, Global};
 use std::process::ExitCode;
-use std::rt::Runtime;
+use std::sync::atomic::AtomicU64;
 use std::thread::Threads;
-use std::time::Clock;
 use sweep::{Choice, Row, SimRunner, SweepPlan, first_refused, run_sweep};
 use trace_file::{Script, read_script};
 use views::{Swept, shown_name, sweep_json, sweep_page};
@@ -21,8 +21,9 @@ use views::{Swept, shown_name, sweep_json, sweep_page};
 const SEEDS: u32 = 1;
 
 /// Prints a row for each setting of the script, as one line of JSON if that is asked for.
-pub fn sweep_script<R: Runtime + AllocGlobal + Threads + Sync>(
-    rt: &R,
+pub fn sweep_script<T: Threads + Sync>(
+    rt: &HostRuntime,
+    threads: &T,
     words: &ArgMatches<'_>,
     on_terminal: bool,
 ) -> Result<ExitCode, Failure> {
@@ -32,7 +33,7 @@ pub fn sweep_script<R: Runtime + AllocGlobal + Threads + Sync>(
     };
     let mut source = open(rt, words, Argument::Script)?;
     match read_script(rt.alloc(), &mut Watched::new(&mut source)) {
-        Ok(script) => over_script(rt, words, &script, &choices, on_terminal),
+        Ok(script) => over_script(rt, threads, words, &script, &choices, on_terminal),
         Err(fault) => {
             let failure = Failure::Audit(AuditFault::Trace(fault));
             let status = tell(rt, &failure);
@@ -43,7 +44,7 @@ pub fn sweep_script<R: Runtime + AllocGlobal + Threads + Sync>(
 }
 
 // Says which word is refused, and why. Control characters of the word are escaped.
-fn tell_word<R: Runtime + AllocGlobal>(rt: &R, fault: WordFault<'_>) -> Result<ExitCode, Failure> {
+fn tell_word(rt: &HostRuntime, fault: WordFault<'_>) -> Result<ExitCode, Failure> {
     let line = format!(in rt.alloc(); "{fault}")?;
     let line = shown_name(rt.alloc(), &line)?;
     let _ = rt.eprintln(format_args!("camxpt: {line}"));
@@ -51,8 +52,9 @@ fn tell_word<R: Runtime + AllocGlobal>(rt: &R, fault: WordFault<'_>) -> Result<E
 }
 
 // Runs the script under the settings that the choices make, unless one of these is refused, or they are too many.
-fn over_script<R: Runtime + AllocGlobal + Threads + Sync>(
-    rt: &R,
+fn over_script<T: Threads + Sync>(
+    rt: &HostRuntime,
+    threads: &T,
     words: &ArgMatches<'_>,
     script: &Script,
     choices: &[Choice],
@@ -64,7 +66,7 @@ fn over_script<R: Runtime + AllocGlobal + Threads + Sync>(
     let seeds = words.get_one("seeds").unwrap_or(SEEDS);
     let plan = SweepPlan::of(rt.alloc(), script.config(), choices, seeds)?;
     let line = ProgressLine::new(rt, on_terminal);
-    let rows = rows_of(rt, &line, script, &plan);
+    let rows = rows_of(threads, rt.alloc(), &line, script, &plan);
     line.clear();
     let rows = rows?;
     let swept = Swept {
@@ -73,31 +75,33 @@ fn over_script<R: Runtime + AllocGlobal + Threads + Sync>(
         plan: &plan,
         rows: &rows,
     };
-    print_rows(rt, swept, words.get_flag("json"))
-}
-
-fn print_rows<R: Runtime + AllocGlobal>(
-    rt: &R,
-    swept: Swept<'_>,
-    as_json: bool,
-) -> Result<ExitCode, Failure> {
-    let text = if as_json {
-        closed(sweep_json(rt.alloc(), swept))?
-    } else {
-        sweep_page(rt.alloc(), swept)?
-    };
+    let text = text_of(rt.alloc(), swept, words.get_flag("json"))?;
     print(&mut standard_output(rt), &text)?;
     Ok(ExitCode::SUCCESS)
 }
 
+// The rows as a page, or as one line of JSON.
+fn text_of(alloc: Global, swept: Swept<'_>, as_json: bool) -> Result<String, AllocError> {
+    if as_json {
+        closed(sweep_json(alloc, swept))
+    } else {
+        sweep_page(alloc, swept)
+    }
+}
+
 // Runs the script under each setting by each seed. The line says how many of the runs are over.
-fn rows_of<R: AllocGlobal + Threads + Clock + Eprint + Sync>(
-    rt: &R,
-    line: &ProgressLine<'_, R>,
+fn rows_of<T: Threads + Sync>(
+    threads: &T,
+    alloc: Global,
+    line: &ProgressLine<'_>,
     script: &Script,
     plan: &SweepPlan,
 ) -> Result<Vec<Row>, Failure> {
-    let alloc = rt.alloc();
-    let runner = CountedRunner::new(SimRunner { alloc }, line, plan.runs());
-    Ok(run_sweep(rt, alloc, &runner, script, plan)?)
+    let runner = CountedRunner {
+        runner: SimRunner { alloc },
+        line,
+        runs: plan.runs(),
+        over: AtomicU64::new(0),
+    };
+    Ok(run_sweep(threads, alloc, &runner, script, plan)?)
 }

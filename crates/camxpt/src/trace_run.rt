@@ -19,9 +19,9 @@ use cam_types::Watched;
 use cost_plan::plan_with;
 use recording_file::{Recording, write_recording};
 use round_net::{Net, NetFault, RoundTable};
+use std::alloc::Global;
 use std::io::{Read, Write};
 use std::thread::Threads;
-use std::time::Clock;
 use trace_file::write_script;
 use views::{audit_json, check_json};
 use wait_causes::Explanation;
@@ -59,10 +59,11 @@ pub enum TraceRun<'a> {
 
 impl TraceRun<'_> {
     /// Prints what comes of the trace. The line says how far it is.
-    pub fn over<R: AllocGlobal + Threads + Clock + Eprint + Sync, D: Read, W: Write>(
+    pub fn over<T: Threads + Sync, D: Read, W: Write>(
         self,
-        rt: &R,
-        line: &ProgressLine<'_, R>,
+        rt: &HostRuntime,
+        threads: &T,
+        line: &ProgressLine<'_>,
         trace: &mut Source<'_, D>,
         out: &mut Output<W>,
     ) -> Result<(), Failure> {
@@ -72,7 +73,7 @@ impl TraceRun<'_> {
         let text = match self {
             TraceRun::Check => return Ok(run_check(alloc, &mut trace, &mut counted)?),
             TraceRun::Audit { summary } => {
-                return Ok(run_audit_with(rt, alloc, &mut trace, &mut counted, summary, line)?);
+                return Ok(run_audit_with(threads, alloc, &mut trace, &mut counted, summary, line)?);
             }
             TraceRun::Migrate => return Ok(run_migrate(alloc, &mut trace, &mut counted)?),
             TraceRun::Record => return Ok(run_record(alloc, &mut trace, &mut counted)?),
@@ -84,7 +85,7 @@ impl TraceRun<'_> {
                 return Ok(());
             }
             TraceRun::Schedule(order) => {
-                let scheduled = order.over(rt, line, &mut trace)?;
+                let scheduled = order.over(threads, alloc, line, &mut trace)?;
                 return Ok(write_recording(alloc, &scheduled, &mut counted)?);
             }
             TraceRun::CheckAsJson => {
@@ -93,18 +94,18 @@ impl TraceRun<'_> {
             }
             TraceRun::AuditAsJson { summary } => {
                 let (_, net) = read_net(alloc, &mut trace)?;
-                let best = plan_with(rt, alloc, &net, line)?;
+                let best = plan_with(threads, alloc, &net, line)?;
                 let (schedule, prices) = (&best.schedule, &best.prices);
                 closed(audit_json(alloc, name, &net, schedule, prices, summary))?
             }
             TraceRun::Explain(view) => {
-                let (net, explanation) = explanation_of(rt, line, &mut trace)?;
+                let (net, explanation) = explanation_of(threads, alloc, line, &mut trace)?;
                 let made = by_weight(alloc, &net)?;
                 view.text(alloc, name, &net, &explanation, made.as_ref())?
             }
             TraceRun::WhatIf(run) => {
-                let (net, explanation) = explanation_of(rt, line, &mut trace)?;
-                run.text(rt, line, name, &net, &explanation)?
+                let (net, explanation) = explanation_of(threads, alloc, line, &mut trace)?;
+                run.text(threads, alloc, line, name, &net, &explanation)?
             }
         };
         line.clear();
@@ -113,14 +114,14 @@ impl TraceRun<'_> {
 }
 
 /// The net of a trace or a recording, and its explanation beside a best schedule.
-pub fn explanation_of<R: AllocGlobal + Threads + Clock + Eprint + Sync, D: Read>(
-    rt: &R,
-    line: &ProgressLine<'_, R>,
+pub fn explanation_of<T: Threads + Sync, D: Read>(
+    threads: &T,
+    alloc: Global,
+    line: &ProgressLine<'_>,
     input: &mut Watched<D>,
 ) -> Result<(Net, Explanation), Failure>
     requires { has_failed input.old ≡ false }
 {
-    let alloc = rt.alloc();
     match read_input(alloc, input)? {
         Input::Trace(history) => {
             let table = RoundTable::of(alloc, &history)?;
@@ -129,24 +130,24 @@ pub fn explanation_of<R: AllocGlobal + Threads + Clock + Eprint + Sync, D: Read>
                 Err(NetFault::Unsent(stay)) => return Err(AuditFault::Unsent(stay).into()),
                 Err(NetFault::OutOfMemory) => return Err(AuditFault::OutOfMemory.into()),
             };
-            let best = plan_with(rt, alloc, &net, line)?;
+            let best = plan_with(threads, alloc, &net, line)?;
             let explanation = Explanation::of(alloc, &history, table, &net, &best.schedule)?;
             Ok((net, explanation))
         }
-        Input::Recording(recording) => explained(rt, line, recording),
+        Input::Recording(recording) => explained(threads, alloc, line, recording),
     }
 }
 
 // The net of a recording, and its explanation beside the best schedule at the recorded pace and the best one.
-fn explained<R: AllocGlobal + Threads + Clock + Eprint + Sync>(
-    rt: &R,
-    line: &ProgressLine<'_, R>,
+fn explained<T: Threads + Sync>(
+    threads: &T,
+    alloc: Global,
+    line: &ProgressLine<'_>,
     recording: Recording,
 ) -> Result<(Net, Explanation), Failure> {
-    let alloc = rt.alloc();
     let net = Net::of_recording(alloc, &recording)?;
-    let best = plan_with(rt, alloc, &net, line)?;
-    let paced = plan_with(rt, alloc, &net.at_pace(alloc)?, line)?;
+    let best = plan_with(threads, alloc, &net, line)?;
+    let paced = plan_with(threads, alloc, &net.at_pace(alloc)?, line)?;
     let (pace, best) = (&paced.schedule, &best.schedule);
     let explanation = Explanation::of_recording(alloc, recording, &net, pace, best)?;
     Ok((net, explanation))

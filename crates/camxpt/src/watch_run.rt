@@ -15,7 +15,6 @@ use recording_file::{Recording, Span};
 use round_net::Net;
 use std::alloc::{AllocError, Global};
 use std::process::ExitCode;
-use std::rt::Runtime;
 use std::{fs, io};
 use views::{Sums, TABLE_HEAD, Window, exposition, table_row, window_json};
 use wait_causes::Explanation;
@@ -26,7 +25,7 @@ const USUAL_WINDOW: u64 = 10_000_000_000;
 
 /// Reads the captures that the words name, and prints a row for each window and one for all of them. Says on standard error why it
 /// ended early.
-pub fn watch<R: Runtime + AllocGlobal>(rt: &R, words: &ArgMatches<'_>) -> ExitCode {
+pub fn watch(rt: &HostRuntime, words: &ArgMatches<'_>) -> ExitCode {
     let tolerance = tolerance_of(words, Tolerance::Lenient);
     let mut refused = Refused::new(rt.alloc(), tolerance.unwrap_or(Tolerance::Lenient));
     match tolerance.and_then(|_| watched(rt, words, &mut refused)) {
@@ -35,8 +34,8 @@ pub fn watch<R: Runtime + AllocGlobal>(rt: &R, words: &ArgMatches<'_>) -> ExitCo
     }
 }
 
-fn watched<R: Runtime + AllocGlobal>(
-    rt: &R,
+fn watched(
+    rt: &HostRuntime,
     words: &ArgMatches<'_>,
     refused: &mut Refused,
 ) -> Result<(), ImportFault> {
@@ -69,9 +68,9 @@ struct KeptFile {
 
 // What came of the windows so far.
 #[derive(Drop)]
-struct Watcher<'a, R: Runtime + AllocGlobal> {
-    rt: &'a R,
-    out: Output<io::Printer<'a, R>>,
+struct Watcher<'a> {
+    rt: &'a HostRuntime,
+    out: Output<io::Printer<'a, HostRuntime>>,
     as_json: bool,
     host: Option<&'a str>,
     prometheus: Option<&'a str>,
@@ -90,16 +89,16 @@ struct Watcher<'a, R: Runtime + AllocGlobal> {
     refused: u64,
 }
 
-impl<'a, R: Runtime + AllocGlobal> Watcher<'a, R> {
+impl<'a> Watcher<'a> {
     // Nothing yet. The folder for recordings is made if it isn't there.
     fn new(
-        rt: &'a R,
+        rt: &'a HostRuntime,
         as_json: bool,
         host: Option<&'a str>,
         prometheus: Option<&'a str>,
         folder: Option<&'a str>,
         most: Option<usize>,
-    ) -> Result<Watcher<'a, R>, ImportFault> {
+    ) -> Result<Watcher<'a>, ImportFault> {
         match folder {
             Some(folder) => {
                 if let Err(error) = fs::create_dir_all(rt, folder) {
@@ -204,7 +203,7 @@ impl<'a, R: Runtime + AllocGlobal> Watcher<'a, R> {
     }
 }
 
-impl<R: Runtime + AllocGlobal> WindowSink for Watcher<'_, R> {
+impl WindowSink for Watcher<'_> {
     fn take(&mut self, number: u64, window: CutWindow, counts: Counts) -> Result<(), ImportFault> {
         let CutWindow {
             from,
@@ -265,8 +264,8 @@ impl<R: Runtime + AllocGlobal> WindowSink for Watcher<'_, R> {
 }
 
 // Writes the recording of a window that begins then, if recordings are kept in a folder. Answers its path.
-fn written<R: Runtime + AllocGlobal>(
-    rt: &R,
+fn written(
+    rt: &HostRuntime,
     folder: Option<&str>,
     from: u64,
     recording: &Recording,

@@ -9,7 +9,6 @@ use orders::{Order, ordered};
 use round_net::{Net, cost};
 use std::alloc::{AllocError, Global};
 use std::thread::Threads;
-use std::time::Clock;
 use views::{WhatIfRow, WhatIfTable, what_if_json, what_if_page};
 use wait_causes::{Explanation, InputKind};
 use what_if::{Change, Costs, costs_of, is_change_of, lists_of_net, what_if, worth_trying};
@@ -41,18 +40,18 @@ struct Tried {
 
 impl WhatIfRun<'_> {
     /// The table for the input of this name. The line says how many rows are made.
-    pub fn text<R: AllocGlobal + Threads + Clock + Eprint + Sync>(
+    pub fn text<T: Threads + Sync>(
         self,
-        rt: &R,
-        line: &ProgressLine<'_, R>,
+        threads: &T,
+        alloc: Global,
+        line: &ProgressLine<'_>,
         name: &str,
         net: &Net,
         explanation: &Explanation,
     ) -> Result<String, Failure> {
-        let alloc = rt.alloc();
         let wanted = self.wanted(alloc, net, explanation)?;
-        let tried = try_all(rt, line, net, &wanted)?;
-        let rows = self.rows(rt, line, net, explanation, &tried)?;
+        let tried = try_all(threads, alloc, line, net, &wanted)?;
+        let rows = self.rows(threads, alloc, line, net, explanation, &tried)?;
         let waits = level_waits(alloc, explanation, by_weight(alloc, net)?.as_ref())?;
         let table = table(name, explanation, &waits, &rows);
         Ok(if self.as_json {
@@ -86,15 +85,15 @@ impl WhatIfRun<'_> {
     }
 
     // The rows of the table: as it was, with no idle slots if that is another net, and those of changes.
-    fn rows<R: AllocGlobal + Threads + Clock + Eprint + Sync>(
+    fn rows<T: Threads + Sync>(
         self,
-        rt: &R,
-        line: &ProgressLine<'_, R>,
+        threads: &T,
+        alloc: Global,
+        line: &ProgressLine<'_>,
         net: &Net,
         explanation: &Explanation,
         tried: &Tried,
     ) -> Result<Vec<WhatIfRow>, AllocError> {
-        let alloc = rt.alloc();
         let mut rows = first_rows(alloc, net, explanation, tried)?;
         let captions = Captions::of(explanation.config(), explanation);
         if !self.rows.is_empty() {
@@ -110,7 +109,16 @@ impl WhatIfRun<'_> {
         if best.len() > 1
             && let Some(first) = tried.costs.get(best[0])
         {
-            push_all(rt, line, net, &tried.lists, &best, *first, &mut rows)?;
+            push_all(
+                threads,
+                alloc,
+                line,
+                net,
+                &tried.lists,
+                &best,
+                *first,
+                &mut rows,
+            )?;
         }
         Ok(rows)
     }
@@ -128,16 +136,16 @@ fn each_alone(alloc: Global, changes: &[Change]) -> Result<Vec<Vec<Change>>, All
 }
 
 // What the waiting costs without a change, and with each of these lists.
-fn try_all<R: AllocGlobal + Threads + Clock + Eprint + Sync>(
-    rt: &R,
-    line: &ProgressLine<'_, R>,
+fn try_all<T: Threads + Sync>(
+    threads: &T,
+    alloc: Global,
+    line: &ProgressLine<'_>,
     net: &Net,
     wanted: &[Vec<Change>],
 ) -> Result<Tried, AllocError> {
-    let alloc = rt.alloc();
     let lists = lists_of_net(alloc, net, wanted)?;
     let progress = CountedRows::new(line, lists.len());
-    let costs = what_if(rt, alloc, net, &lists, &progress)?;
+    let costs = what_if(threads, alloc, net, &lists, &progress)?;
     Ok(Tried { lists, costs })
 }
 
@@ -249,16 +257,16 @@ fn places_by_costs(alloc: Global, costs: &[Costs]) -> Result<Vec<usize>, AllocEr
 }
 
 // Puts the row of the changes of all lists at these places together after the rows, unless it costs what the first does.
-fn push_all<R: AllocGlobal + Threads + Clock + Eprint + Sync>(
-    rt: &R,
-    line: &ProgressLine<'_, R>,
+fn push_all<T: Threads + Sync>(
+    threads: &T,
+    alloc: Global,
+    line: &ProgressLine<'_>,
     net: &Net,
     lists: &[Vec<Change>],
     places: &[usize],
     first: Costs,
     rows: &mut Vec<WhatIfRow>,
 ) -> Result<(), AllocError> {
-    let alloc = rt.alloc();
     let mut all = Vec::new(alloc);
     for place in places {
         if let Some(list) = lists.get(*place) {
@@ -270,7 +278,7 @@ fn push_all<R: AllocGlobal + Threads + Clock + Eprint + Sync>(
     let option = options_of(alloc, &all)?;
     let mut one = Vec::new(alloc);
     one.push(all)?;
-    let made = try_all(rt, line, net, &one)?;
+    let made = try_all(threads, alloc, line, net, &one)?;
     if let Some(costs) = made.costs.last()
         && *costs != first
     {

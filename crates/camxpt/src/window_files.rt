@@ -9,21 +9,20 @@ use capture_file::Counts;
 use recording_file::{Recording, WriteFault, write_recording};
 use std::alloc::{AllocError, Global};
 use std::fs::File;
-use std::rt::Runtime;
 use std::{fs, io};
 use window_recordings::CutWindow;
 
 /// A folder for the recordings of windows, and standard output for a table of them.
 #[derive(Drop)]
-pub struct WindowFiles<'a, R: Runtime> {
-    rt: &'a R,
+pub struct WindowFiles<'a> {
+    rt: &'a HostRuntime,
     folder: &'a str,
-    out: Output<io::Printer<'a, R>>,
+    out: Output<io::Printer<'a, HostRuntime>>,
 }
 
-impl<'a, R: Runtime + AllocGlobal> WindowFiles<'a, R> {
+impl<'a> WindowFiles<'a> {
     /// Makes the folder if it isn't there, and prints the head of the table.
-    pub fn new(rt: &'a R, folder: &'a str) -> Result<WindowFiles<'a, R>, ImportFault> {
+    pub fn new(rt: &'a HostRuntime, folder: &'a str) -> Result<WindowFiles<'a>, ImportFault> {
         if let Err(error) = fs::create_dir_all(rt, folder) {
             return Err(ImportFault::CannotWrite(FileOption::Out, error));
         }
@@ -44,7 +43,7 @@ impl<'a, R: Runtime + AllocGlobal> WindowFiles<'a, R> {
     }
 }
 
-impl<R: Runtime + AllocGlobal> WindowSink for WindowFiles<'_, R> {
+impl WindowSink for WindowFiles<'_> {
     fn take(
         &mut self,
         _number: u64,
@@ -85,8 +84,8 @@ pub fn file_name(alloc: Global, from: u64) -> Result<String, AllocError> {
 }
 
 /// Writes a recording to a file of a folder: whole, or not at all. The option is the one that asks for it.
-pub fn write_whole<R: Runtime + AllocGlobal>(
-    rt: &R,
+pub fn write_whole(
+    rt: &HostRuntime,
     option: FileOption,
     path: &str,
     recording: &Recording,
@@ -103,8 +102,8 @@ pub fn write_whole<R: Runtime + AllocGlobal>(
 }
 
 /// The same of a text.
-pub fn write_text<R: Runtime + AllocGlobal>(
-    rt: &R,
+pub fn write_text(
+    rt: &HostRuntime,
     option: FileOption,
     path: &str,
     text: &str,
@@ -119,19 +118,15 @@ pub fn write_text<R: Runtime + AllocGlobal>(
     Err(fault)
 }
 
-fn created<R: Runtime>(
-    rt: &R,
-    option: FileOption,
-    path: &str,
-) -> Result<Output<R::File>, ImportFault> {
+fn created(rt: &HostRuntime, option: FileOption, path: &str) -> Result<Output<File>, ImportFault> {
     match File::create(rt, path) {
         Ok(file) => Ok(file_output(file)),
         Err(error) => Err(ImportFault::CannotWrite(option, error)),
     }
 }
 
-fn renamed<R: Runtime>(
-    rt: &R,
+fn renamed(
+    rt: &HostRuntime,
     option: FileOption,
     part: &str,
     path: &str,

@@ -5,14 +5,14 @@ use std::io;
 
 /// Prints the transport's answers, a line each; or nothing, if standard output is for the trace.
 #[derive(Drop)]
-pub struct Lines<'a, R> {
-    rt: &'a R,
+pub struct Lines<'a> {
+    rt: &'a HostRuntime,
     printed: bool,
 }
 
-impl<'a, R: Print> Lines<'a, R> {
+impl<'a> Lines<'a> {
     /// Lines that are printed or aren't.
-    pub fn new(rt: &'a R, printed: bool) -> Lines<'a, R> {
+    pub fn new(rt: &'a HostRuntime, printed: bool) -> Lines<'a> {
         Lines { rt, printed }
     }
 

@@ -9,7 +9,6 @@ use cam_types::{Config, Device, Flags, Limits, Outcome, Watched};
 use sense_class::{CAM_BUSY, CAM_REQ_CMP, Class};
 use std::alloc::Global;
 use std::process::ExitCode;
-use std::rt::Runtime;
 use std::{env, io};
 use trace_file::write_trace;
 use xpt_state::{Case, Sent, Xpt};
@@ -27,7 +26,7 @@ fn main(rt: HostRuntime) -> io::Result<ExitCode> {
     }
 }
 
-fn run<R: Runtime + AllocGlobal>(rt: &R) -> Result<(), Fault> {
+fn run(rt: &HostRuntime) -> Result<(), Fault> {
     let words: Vec<String> = env::args(rt)?.collect(rt.alloc())?;
     match words.get(1) {
         Some(word) if word.as_str() == "--trace" => serve(rt, &words[2..], true),
@@ -37,7 +36,7 @@ fn run<R: Runtime + AllocGlobal>(rt: &R) -> Result<(), Fault> {
 }
 
 // Runs one command over a disk that answers with these statuses. Prints each answer, or the trace at the end.
-fn serve<R: Runtime + AllocGlobal>(rt: &R, statuses: &[String], traced: bool) -> Result<(), Fault> {
+fn serve(rt: &HostRuntime, statuses: &[String], traced: bool) -> Result<(), Fault> {
     let alloc = rt.alloc();
     let lines = Lines::new(rt, !traced);
     let mut xpt = open(alloc)?;
@@ -74,7 +73,7 @@ fn open(alloc: Global) -> Result<Xpt, Fault> {
 }
 
 // What the lane may send is sent, and answered with the status; what failed is decided; and the next round opens.
-fn round<R: Print>(lines: &Lines<'_, R>, xpt: &mut Xpt, status: u8) -> Result<(), Fault> {
+fn round(lines: &Lines<'_>, xpt: &mut Xpt, status: u8) -> Result<(), Fault> {
     match xpt.send_next(0)? {
         Sent::Command(command) => {
             lines.print(format_args!("send ccb {} attempt {}", command.ccb, command.attempt))?;
@@ -93,19 +92,14 @@ fn round<R: Print>(lines: &Lines<'_, R>, xpt: &mut Xpt, status: u8) -> Result<()
 }
 
 // The disk has answered the command with the status.
-fn complete<R: Print>(
-    lines: &Lines<'_, R>,
-    xpt: &mut Xpt,
-    ccb: u32,
-    status: u8,
-) -> Result<(), Fault> {
+fn complete(lines: &Lines<'_>, xpt: &mut Xpt, ccb: u32, status: u8) -> Result<(), Fault> {
     let done = xpt.done(ccb, Outcome::of_status(status))?;
     lines.print(format_args!("done {:?} value {:02x}", done.class, done.value))?;
     Ok(())
 }
 
 // A CCB that failed is sent again or given back, as its class asks.
-fn decide<R: Print>(lines: &Lines<'_, R>, xpt: &mut Xpt, case: Case) -> Result<(), Fault> {
+fn decide(lines: &Lines<'_>, xpt: &mut Xpt, case: Case) -> Result<(), Fault> {
     let Case { ccb, class } = case;
     match class {
         Class::FreeRequeue | Class::CountedRequeue => {

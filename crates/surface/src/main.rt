@@ -32,7 +32,7 @@ mod texts;
 
 fn main(rt: HostRuntime) -> Result<()> {
     if is_of_refused_memory(&rt)? {
-        return call_refused(&rt);
+        return call_refused(&rt, &rt);
     }
     call_cam_types(&rt)?;
     call_cam_path(&rt)?;

@@ -18,7 +18,6 @@ use std::alloc::Global;
 use std::io;
 use std::io::Write;
 use std::marker::Brand;
-use std::rt::Runtime;
 use std::sync::Wait;
 use std::sync::ledger::{Blank, Ledger};
 use std::thread::Threads;
@@ -42,12 +41,13 @@ const COMMAND: Command = Command {
 const BURST: u32 = 256;
 
 /// Makes the calls once all that they need is there.
-pub fn call_refused<R: Runtime + AllocGlobal + Threads + Wait + Sync>(rt: &R) -> Result<()> {
-    call_all::<Brand, R>(rt, Blank::new(65))
+pub fn call_refused<T: Threads + Wait + Sync>(rt: &HostRuntime, threads: &T) -> Result<()> {
+    call_all::<Brand, T>(rt, threads, Blank::new(65))
 }
 
-fn call_all<L: Ledger, R: Runtime + AllocGlobal + Threads + Wait + Sync>(
-    rt: &R,
+fn call_all<L: Ledger, T: Threads + Wait + Sync>(
+    rt: &HostRuntime,
+    threads: &T,
     blank: Blank,
 ) -> Result<()>
     requires name { blank.name ≡ L.name }
@@ -56,7 +56,7 @@ fn call_all<L: Ledger, R: Runtime + AllocGlobal + Threads + Wait + Sync>(
     let alloc: Global = rt.alloc();
     let xpt = Xpt::open(alloc, wide_config(alloc)?, Limits::most())?;
     let shared: SharedXpt<L> = SharedXpt::new(xpt, blank);
-    let seats = Seats::taken(rt, alloc, &shared)?;
+    let seats = Seats::taken(threads, alloc, &shared)?;
     let script: Script = read_script(alloc, &mut Watched::new(SCRIPT.as_bytes()))?;
     if script.config().lanes().len() == 0 {
         bail!("no lane");
@@ -71,12 +71,12 @@ fn call_all<L: Ledger, R: Runtime + AllocGlobal + Threads + Wait + Sync>(
     serve_all(rt, &mut port)?;
     write_audit(rt, &mut audit)?;
     plan_burst(rt, &net)?;
-    plan_at_once(rt, &net)?;
-    seats.call(rt, alloc, shared)
+    plan_at_once(rt, threads, &net)?;
+    seats.call(rt, threads, alloc, shared)
 }
 
 // Puts a path after what is there.
-fn write_path<R: Runtime>(rt: &R, text: &mut Vec<u8>) -> Result<()> {
+fn write_path(rt: &HostRuntime, text: &mut Vec<u8>) -> Result<()> {
     let path = CamPath {
         bus: 7,
         target: 65_535,
@@ -95,7 +95,7 @@ fn write_path<R: Runtime>(rt: &R, text: &mut Vec<u8>) -> Result<()> {
 }
 
 // Serves five commands, and prints what they were answered.
-fn serve_all<R: Runtime>(rt: &R, port: &mut ScriptPort) -> Result<()> {
+fn serve_all(rt: &HostRuntime, port: &mut ScriptPort) -> Result<()> {
     for number in 0..5 {
         serve(rt, port, number)?;
     }
@@ -108,7 +108,7 @@ fn serve_all<R: Runtime>(rt: &R, port: &mut ScriptPort) -> Result<()> {
 }
 
 // Serves a command after that many others. Where room is made already, the second call takes no memory.
-fn serve<R: Runtime>(rt: &R, port: &mut ScriptPort, number: usize) -> Result<()> {
+fn serve(rt: &HostRuntime, port: &mut ScriptPort, number: usize) -> Result<()> {
     if port.make_room().is_err() {
         if port.served().len() != number {
             bail!("another list");
@@ -121,7 +121,7 @@ fn serve<R: Runtime>(rt: &R, port: &mut ScriptPort, number: usize) -> Result<()>
 }
 
 // Writes the summary of an audit. There is room for it, so that no write takes memory.
-fn write_audit<R: Runtime + AllocGlobal>(rt: &R, text: &mut Vec<u8>) -> Result<()> {
+fn write_audit(rt: &HostRuntime, text: &mut Vec<u8>) -> Result<()> {
     match summary(rt.alloc(), text) {
         Err(
             AuditFault::OutOfMemory
@@ -147,7 +147,7 @@ fn summary(alloc: Global, text: &mut Vec<u8>) -> Result<(), AuditFault> {
 }
 
 // Plans the burst. The line before it says where its requests begin.
-fn plan_burst<R: Runtime + AllocGlobal>(rt: &R, net: &Net) -> Result<()> {
+fn plan_burst(rt: &HostRuntime, net: &Net) -> Result<()> {
     println!(rt; "planning")?;
     let best: BestPlan = match plan(rt.alloc(), net) {
         Ok(best) => best,
@@ -160,14 +160,14 @@ fn plan_burst<R: Runtime + AllocGlobal>(rt: &R, net: &Net) -> Result<()> {
 }
 
 // Plans the burst again, its parts at once, and tells of each part when it is begun.
-fn plan_at_once<R: Runtime + AllocGlobal + Threads + Sync>(rt: &R, net: &Net) -> Result<()> {
+fn plan_at_once<T: Threads + Sync>(rt: &HostRuntime, threads: &T, net: &Net) -> Result<()> {
     let progress = Telling { rt };
     println!(rt; "planning at once")?;
-    let best: BestPlan = match plan_with(rt, rt.alloc(), net, &progress) {
+    let best: BestPlan = match plan_with(threads, rt.alloc(), net, &progress) {
         Ok(best) => best,
         Err(_) => {
             println!(rt; "plan at once: out of memory")?;
-            plan_with(rt, rt.alloc(), net, &progress)?
+            plan_with(threads, rt.alloc(), net, &progress)?
         }
     };
     tell_cost(rt, net, &best)
@@ -175,17 +175,17 @@ fn plan_at_once<R: Runtime + AllocGlobal + Threads + Sync>(rt: &R, net: &Net) ->
 
 // Prints the progress that it receives.
 #[derive(Drop)]
-struct Telling<'a, R> {
-    rt: &'a R,
+struct Telling<'a> {
+    rt: &'a HostRuntime,
 }
 
-impl<R: Print> PlanProgress for Telling<'_, R> {
+impl PlanProgress for Telling<'_> {
     fn begun(&self, adapter: u32) {
         let _ = println!(self.rt; "begun {adapter}");
     }
 }
 
-fn tell_cost<R: Runtime>(rt: &R, net: &Net, best: &BestPlan) -> Result<()> {
+fn tell_cost(rt: &HostRuntime, net: &Net, best: &BestPlan) -> Result<()> {
     if best.schedule.len() != net.stays() as usize {
         bail!("another number of stays");
     }

@@ -3,7 +3,6 @@
 use anyhow::{Result, bail};
 use cam_types::{Config, ConfigError, Device, Flags};
 use std::alloc::Global;
-use std::rt::Runtime;
 use std::sync::Wait;
 use std::sync::ledger::Ledger;
 use xpt_lock::{GatherFault, Seat, SeatName, SharedFault, SharedXpt};
@@ -32,18 +31,19 @@ pub struct Seats<L: Ledger> {
 
 impl<L: Ledger> Seats<L> {
     /// The seats of a driver and of a lane.
-    pub fn taken<R: Wait>(rt: &R, alloc: Global, shared: &SharedXpt<L>) -> Result<Seats<L>> {
+    pub fn taken<T: Wait>(threads: &T, alloc: Global, shared: &SharedXpt<L>) -> Result<Seats<L>> {
         Ok(Seats {
-            driver: shared.seat(rt, alloc, SeatName::Driver(0))?,
-            lane: shared.seat(rt, alloc, SeatName::Lane(0))?,
+            driver: shared.seat(threads, alloc, SeatName::Driver(0))?,
+            lane: shared.seat(threads, alloc, SeatName::Lane(0))?,
             list: Vec::with_capacity(alloc, 2)?,
         })
     }
 
     /// Submits by one seat, sends by the other and gathers both.
-    pub fn call<R: Runtime + Wait>(
+    pub fn call<T: Wait>(
         self,
-        rt: &R,
+        rt: &HostRuntime,
+        threads: &T,
         alloc: Global,
         shared: SharedXpt<L>,
     ) -> Result<()> {
@@ -52,8 +52,8 @@ impl<L: Ledger> Seats<L> {
             mut lane,
             mut list,
         } = self;
-        call_all(rt, &shared, &mut driver, "submit")?;
-        call_all(rt, &shared, &mut lane, "send")?;
+        call_all(rt, threads, &shared, &mut driver, "submit")?;
+        call_all(rt, threads, &shared, &mut lane, "send")?;
         list.push(driver)?;
         list.push(lane)?;
         match shared.gather(alloc, list) {
@@ -64,35 +64,37 @@ impl<L: Ledger> Seats<L> {
     }
 }
 
-fn call_all<L: Ledger, R: Runtime + Wait>(
-    rt: &R,
+fn call_all<L: Ledger, T: Wait>(
+    rt: &HostRuntime,
+    threads: &T,
     shared: &SharedXpt<L>,
     seat: &mut Seat<L>,
     name: &str,
 ) -> Result<()> {
     for _ in 0..CALLS {
-        insist(rt, shared, seat, name)?;
+        insist(rt, threads, shared, seat, name)?;
     }
     println!(rt; "{name} {CALLS}")?;
     Ok(())
 }
 
 // Makes the call, and once more if there was no memory for it: then the seat and the transport have to be as they were.
-fn insist<L: Ledger, R: Runtime + Wait>(
-    rt: &R,
+fn insist<L: Ledger, T: Wait>(
+    rt: &HostRuntime,
+    threads: &T,
     shared: &SharedXpt<L>,
     seat: &mut Seat<L>,
     name: &str,
 ) -> Result<()> {
     let receipts = seat.receipts().len();
-    let length = shared.look(rt).length;
-    match make(rt, shared, seat, name) {
+    let length = shared.look(threads).length;
+    match make(threads, shared, seat, name) {
         Err(SharedFault::OutOfMemory) => {
-            if seat.receipts().len() != receipts || shared.look(rt).length != length {
+            if seat.receipts().len() != receipts || shared.look(threads).length != length {
                 bail!("a refused call changed something");
             }
             println!(rt; "{name}: out of memory")?;
-            make(rt, shared, seat, name)?;
+            make(threads, shared, seat, name)?;
         }
         made => made?,
     }
@@ -100,16 +102,16 @@ fn insist<L: Ledger, R: Runtime + Wait>(
 }
 
 // A submit, or a send of the lane's next command.
-fn make<L: Ledger, R: Wait>(
-    rt: &R,
+fn make<L: Ledger, T: Wait>(
+    threads: &T,
     shared: &SharedXpt<L>,
     seat: &mut Seat<L>,
     name: &str,
 ) -> Result<(), SharedFault> {
     if name == "submit" {
-        shared.submit(rt, seat, 0, 0, 1152, 4, Flags::none())?;
+        shared.submit(threads, seat, 0, 0, 1152, 4, Flags::none())?;
     } else {
-        shared.send_next(rt, seat, 0)?;
+        shared.send_next(threads, seat, 0)?;
     }
     Ok(())
 }

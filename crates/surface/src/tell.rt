@@ -1,10 +1,9 @@
 //! Lines of what calls answered.
 
 use anyhow::Result;
-use std::rt::Runtime;
 
 /// Prints the words, the numbers after them, and a semicolon.
-pub(crate) fn tell<R: Runtime>(rt: &R, words: &str, numbers: &[u64]) -> Result<()> {
+pub(crate) fn tell(rt: &HostRuntime, words: &str, numbers: &[u64]) -> Result<()> {
     print!(rt; " {words}")?;
     for number in numbers {
         print!(rt; " {number}")?;
@@ -14,13 +13,13 @@ pub(crate) fn tell<R: Runtime>(rt: &R, words: &str, numbers: &[u64]) -> Result<(
 }
 
 /// Prints the crate's name.
-pub(crate) fn begin<R: Runtime>(rt: &R, name: &str) -> Result<()> {
+pub(crate) fn begin(rt: &HostRuntime, name: &str) -> Result<()> {
     print!(rt; "{name}:")?;
     Ok(())
 }
 
 /// Ends the line.
-pub(crate) fn end<R: Runtime>(rt: &R) -> Result<()> {
+pub(crate) fn end(rt: &HostRuntime) -> Result<()> {
     println!(rt; "")?;
     Ok(())
 }

@@ -55,11 +55,18 @@ def program_of(name, root=top):
     return os.path.join(root, "crates", name, "out", name)
 
 
+def static_library_of(name):
+    """The static library of a crate that `runs/c` proved and built."""
+    return os.path.join(top, "out", "c", "parts", f"lib{name}.a")
+
+
 def is_old(name):
-    """Whether a program is missing, or older than a source that it is made of. What a library states is looked up later."""
-    if not is_program(name) or not os.access(program_of(name), os.X_OK):
+    """Whether a program or a static library is missing, or older than a source that it is made of. What another library states is
+    looked up later."""
+    made = program_of(name) if is_program(name) else static_library_of(name) if is_static(name) else ""
+    if not os.access(made, os.R_OK):
         return True
-    return newest([name, *below(name)]) > os.stat(program_of(name)).st_mtime_ns
+    return newest([name, *below(name)]) > os.stat(made).st_mtime_ns
 
 
 @functools.cache

@@ -461,7 +461,7 @@ fn last() -> &'static [Subcommand] {
 /// The words that the program takes.
 pub fn command<'a>(alloc: Global) -> Result<Command<'a>, AllocError> {
     let mut command = Command::new(alloc, "camxpt")
-        .version("0.6.4")
+        .version("0.6.5")
         .about(
             "Audits traces of a CAM transport and recordings of any scheduler, and runs scripts that record traces. With no arguments it prints the summary of the audit of the trace or recording on standard input.",
         )

@@ -50,7 +50,7 @@ extern "C" {
 #endif
 
 /** The version of this header, as `camxpt --version` has it. */
-#define CAMXPT_VERSION "0.6.5"
+#define CAMXPT_VERSION "0.6.6"
 
 /** The version of the library: CAMXPT_VERSION if it is of this header. */
 const char *camxpt_version(void);

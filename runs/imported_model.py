@@ -1,6 +1,6 @@
 #!/usr/bin/env python3
-"""Reckons the requests of a capture anew, plainly, line by line. Open requests are lists in the order of arrivals, searched from
-the front."""
+"""Reckons the requests of a capture anew, plainly, line by line: of each attempt of a request when it arrived, was started and was
+completed, and what is counted of those of which the capture lacks one of these."""
 from __future__ import annotations
 
 import csv
@@ -12,10 +12,12 @@ STATISTICS = ("CPU", "Total (", "Throughput", "Events (", "Skips", "Input file",
 IGNORED = ("G", "I", "A", "X", "m", "P", "U", "UT", "B", "S")
 MAX_DRIVERS, MAX_DEVICES, MAX_LINE, MAX_TIMES = 256, 32, 65_536, 16
 NEEDED, COLUMNS = {"arrival", "start", "device"}, ("arrival", "start", "end", "device", "driver", "priority", "size", "comm", "pid", "cgroup")
-COUNTS = ("never_started", "without_arrival", "without_start", "requests_without_starts", "other_devices", "other_times",
-          "refused_lines", "without_partner", "dropped_runs", "early_starts")
+COUNTS = ("never_started", "without_arrival", "lost_starts", "requests_without_starts", "other_devices", "other_times",
+          "refused_lines", "without_partner", "dropped_runs", "early_starts", "from_before", "still_waiting")
 # By how much the clocks of two processors may differ.
 SKEW = 100_000
+# The driver of flushes and commands that the block layer issues; the sector of a flush, which is none.
+FLUSH, NO_SECTOR = "flush", 2**64 - 1
 # The kernel's events that say something of a request, as blkparse calls them.
 EVENTS = {"bio_queue": "Q", "bio_backmerge": "M", "bio_frontmerge": "F", "rq_merge": "M", "rq_issue": "D", "rq_requeue": "R", "rq_complete": "C"}
 BLANKS = " \t\r\n\f"
@@ -27,17 +29,22 @@ class Refused(Exception):
 
 @dataclass
 class Request:
+    """An attempt of a request. It waits until it is started, and flies until it is completed or put back."""
     arrival: int
     device: str
     driver: str
     priority: int
     started: int | None = None
     completed: int | None = None
-    # When it was put back; as retried, only if the next attempt is taken.
+    # When a write was completed once more, after the flush behind it.
+    second: int | None = None
     put_back: int | None = None
-    retried: int | None = None
+    # Its sector, if it has sectors; how many, or in a table bytes; and its kind and sectors, by which its end is known.
     place: int | None = None
     size: int = 0
+    form: tuple[str, int] = ("", 0)
+    # Its number in the order of arrivals, and of equal ones of the lines.
+    number: int = 0
     kept: bool = True
     # Whether its arrival was seen; its priority by direction, and by its I/O class if that is known.
     seen: bool = True
@@ -81,17 +88,26 @@ class Options:
     rated: tuple[tuple[str, int], ...] = ()
     depths: tuple[tuple[str, int], ...] = ()
     driver_by: str | None = None
+    unit: str = "us"
 
     def listed(self, name: str) -> str | None:
         return next((it for pick in self.picks if (it := takes(pick, name)) is not None), None) if self.picks else name
 
 
 class Reader:
+    # Whether flights, and what the capture lacks of them, are told.
+    tells_flights = True
+
     def __init__(self, options: Options) -> None:
         self.options = options
         self.requests: list[Request] = []
-        # All, by arrival, once the capture is finished.
+        # All, by arrival, once the capture is finished; those whose arrival isn't in the capture; and flights that began before it, of
+        # which only the end was seen: the device as it is listed, the begin of the capture, and the end.
         self.found: list[Request] = []
+        self.early_all: list[Request] = []
+        self.before: list[tuple[str, int, int]] = []
+        # The latest time of the capture, and how long at the most a request waits there.
+        self.last = self.longest_wait = 0
         self.devices: list[str] = []
         self.drivers: list[str] = []
         self.counts = dict.fromkeys(COUNTS, 0)
@@ -131,13 +147,13 @@ class Reader:
         """The requests at the times that are taken, by arrival, of the devices as which theirs are listed."""
         found = sorted(self.all(), key=lambda request: request.arrival)
         taken = [request for request in found if self.options.begin <= request.arrival < self.options.end]
-        for request in found:
-            request.device = self.options.listed(request.device) or ""
+        for number, request in enumerate(sorted(found + self.early_all, key=lambda it: (it.arrival, it.number))):
+            request.number, request.device = number, self.options.listed(request.device) or ""
         self.found = found
-        for request in taken:
-            request.retried = request.retried if request.retried is None or request.retried < self.options.end else None
         self.counts["other_times"] = len(found) - len(taken)
-        self.counts["never_started"] = sum(request.started is None for request in taken)
+        waiting = [request for request in taken if request.started is None]
+        self.counts["still_waiting" if self.tells_flights else "never_started"] = len(waiting)
+        self.longest_wait = max((self.last - request.arrival for request in waiting), default=0)
         for kind, names in ("device", self.devices), ("driver", self.drivers):
             names[:] = [name for name in names if any(getattr(request, kind) == name for request in taken)]
         if len(self.devices) > MAX_DEVICES:
@@ -147,15 +163,32 @@ class Reader:
 
 @dataclass
 class Event:
-    """What an event says of a request at a place: of a flush None, of a command of SG_IO -1."""
+    """What an event says of a request. Without sectors it may still have the number of one."""
     device: str
     action: str
     flags: str
-    place: int | None
-    end: int
+    sector: int | None
+    sectors: int
     process: str
     pid: str
     by_class: int | None = None
+
+    @property
+    def place(self) -> int | None:
+        return self.sector if self.sectors else None
+
+    @property
+    def end(self) -> int:
+        return (self.sector or 0) + self.sectors
+
+    @property
+    def kind(self) -> str:
+        """What is done, as a letter. An F before it says that a flush comes first."""
+        return self.flags[1] if re.match("F[RWD]", self.flags) else self.flags[0]
+
+    @property
+    def form(self) -> tuple[str, int]:
+        return self.kind, self.sectors
 
 
 class Events(Reader):
@@ -163,10 +196,16 @@ class Events(Reader):
 
     def __init__(self, options: Options) -> None:
         super().__init__(options)
-        self.last = 0
+        self.begin: int | None = None
         self.attempts: list[Request] = []
+        # Those that wait or fly, by device and sector; of flushes and commands there is none.
+        self.open: dict[tuple[str, int | None], list[Request]] = {}
+        # The writes that were completed once, by device and the sector after them.
+        self.written: dict[tuple[str, int], list[Request]] = {}
         self.starts: set[str] = set()
+        # The devices of requests that were completed and never started, and when others of which nothing was seen before were completed.
         self.ended: list[str] = []
+        self.unknown: list[tuple[str, int]] = []
 
     def parse(self, line: str) -> tuple[int, Event | None] | None:
         """The time of a line, and what it says of a request. None if it isn't an event."""
@@ -179,20 +218,19 @@ class Events(Reader):
         time, event = parsed
         must(time + SKEW >= self.last)
         self.last = time = max(time, self.last)
+        self.begin = time if self.begin is None else self.begin
         if event is None:
             return
         listed = self.options.listed(event.device)
         if listed is None:
-            self.counts["other_devices"] += event.action == "Q"
+            self.counts["other_devices"] += event.action == "Q" and event.sectors > 0
             return
         self.name(listed, self.devices, 2**64)
         self.starts |= {event.device} if event.action == "D" else set()
-        if event.place is None and event.action == "C" and not event.flags.startswith("F"):
-            event.place = -1
-        if event.place == -1:
-            self.counts["without_arrival"] += event.action != "Q"
-        else:
+        if event.sectors:
             self.apply(time, event)
+        else:
+            self.apply_without_sectors(time, event)
 
     @staticmethod
     def direction_priority(flags: str) -> int:
@@ -202,74 +240,135 @@ class Events(Reader):
             return 896 if "S" in flags or "F" in flags else 1152
         return 1279 if flags[0] == "D" else 640
 
-    def waiting(self, device: str, place: int | None) -> Request | None:
-        return next((it for it in self.attempts if it.kept and it.started is None and (it.device, it.place) == (device, place)), None)
+    def here(self, device: str, place: int | None) -> list[Request]:
+        return self.open.setdefault((device, place), [])
 
-    def running(self, device: str, place: int | None) -> list[Request]:
-        """Those that are in flight there, the one that was started first before the others."""
-        own = [it for it in self.attempts if it.started is not None and it.completed is None and it.put_back is None]
-        return sorted((it for it in own if (it.device, it.place) == (device, place)), key=lambda it: it.started or 0)
+    def waiting(self, device: str, place: int | None) -> Request | None:
+        """The one that has waited longest there."""
+        return min((it for it in self.here(device, place) if it.started is None), key=lambda it: it.number, default=None)
+
+    def newest(self, event: Event) -> Request | None:
+        """Of those in flight whose end the event can be the one that was started last. Of one whose arrival wasn't seen nobody knows more than
+        where it is."""
+        fitting = [it for it in self.here(event.device, event.place) if it.started is not None
+                   and (not it.seen or it.form == event.form)]
+        return max(fitting, key=lambda it: (it.started or 0, it.number), default=None)
+
+    def come(self, request: Request) -> Request:
+        request.number = len(self.attempts)
+        self.attempts.append(request)
+        self.here(request.device, request.place).append(request)
+        return request
+
+    def leave(self, request: Request) -> None:
+        self.here(request.device, request.place).remove(request)
+
+    def drop(self, request: Request) -> None:
+        request.kept = False
+        self.leave(request)
 
     def apply(self, time: int, event: Event) -> None:
-        waiting, running = self.waiting(event.device, event.place), self.running(event.device, event.place)
+        waiting = self.waiting(event.device, event.place)
         if event.action == "Q":
-            self.arrive(time, event, [it for it in running if not it.seen and (it.started or 0) >= time - SKEW])
+            self.arrive(time, event)
         elif event.action == "F":
-            behind = self.waiting(event.device, event.end) if event.place is not None and event.end != event.place else None
+            behind = self.waiting(event.device, event.end)
             if behind is not None:
+                self.leave(behind)
                 behind.place = event.place
+                self.here(event.device, event.place).append(behind)
                 if waiting is not None:
-                    waiting.kept = False
+                    self.drop(waiting)
         elif event.action == "M" and waiting is not None:
-            waiting.kept = False
+            self.drop(waiting)
         elif event.action == "D":
-            if waiting is None:
-                self.counts["without_arrival"] += 1
-                waiting = Request(time, event.device, "", 0, place=event.place, seen=False)
-                self.attempts += [waiting] if event.place is not None else []
-            waiting.started, waiting.size, waiting.by_class = time, event.end - (event.place or 0), event.by_class
-        elif event.action == "R":
-            self.counts["without_arrival"] += not running or not running[0].seen
-            for first in running[:1]:
-                first.retried = first.put_back = time
-                if first.seen:
-                    self.attempts.append(Request(time, event.device, first.driver, 0, place=event.place, by_direction=first.by_direction))
-        elif event.action == "C":
-            for first in running[:1]:
-                first.completed = time
-            if not running and waiting is not None:
-                waiting.kept = False
+            started = waiting or self.come(Request(time, event.device, "", 0, place=event.place, seen=False))
+            started.started, started.size, started.form = time, event.sectors, event.form
+            started.by_class = started.by_class if event.by_class is None else event.by_class
+        elif event.action in "CR":
+            newest = self.newest(event)
+            if newest is not None:
+                self.end_flight(time, event, newest)
+            elif event.action == "C" and waiting is not None:
+                self.drop(waiting)
                 self.ended.append(event.device)
-            else:
-                self.counts["without_arrival"] += not running or not running[0].seen
+            elif event.action == "C":
+                self.unknown.append((event.device, time))
 
-    def arrive(self, time: int, event: Event, early: list[Request]) -> None:
+    def apply_without_sectors(self, time: int, event: Event) -> None:
+        """A flush or a command: a request that arrives when it is started. That a process asks for a flush is no request."""
+        if event.action == "D":
+            self.name_driver(FLUSH, time)
+            self.come(Request(time, event.device, FLUSH, 0, started=time, form=event.form, by_direction=640))
+        elif event.action in "CR":
+            ended = self.written.get((event.device, event.sector), []) if event.sector not in (None, NO_SECTOR) else []
+            newest = self.newest(event)
+            if event.action == "C" and event.kind == "W" and ended:
+                # (the flush behind a write has ended, and so the write, once more)
+                write = max(ended, key=lambda it: (it.started or 0, it.number))
+                write.second = time
+                ended.remove(write)
+            elif newest is not None:
+                self.end_flight(time, event, newest)
+            elif event.action == "C" and event.kind != "W":
+                self.unknown.append((event.device, time))
+
+    def end_flight(self, time: int, event: Event, request: Request) -> None:
+        self.leave(request)
+        if event.action == "C":
+            request.completed = time
+            if event.kind == "W" and event.sectors:
+                self.written.setdefault((event.device, event.sector), []).append(request)
+            return
+        request.put_back = time
+        if request.seen and request.place is not None:
+            self.come(Request(time, event.device, request.driver, 0, place=request.place, by_direction=request.by_direction, by_class=request.by_class))
+
+    def arrive(self, time: int, event: Event) -> None:
         driver = event.pid if self.options.driver_by == "pid" else event.process
+        self.name_driver(driver, time)
+        by_direction = self.direction_priority(event.flags)
+        early = next((it for it in self.here(event.device, event.place) if not it.seen and it.arrival >= time - SKEW), None)
+        if early is None:
+            self.come(Request(time, event.device, driver, 0, place=event.place, by_direction=by_direction))
+        else:
+            # (another processor's clock saw its start first: it arrived then)
+            early.seen, early.driver, early.by_direction, early.size = True, driver, by_direction, event.sectors
+            self.counts["early_starts"] += 1
+
+    def name_driver(self, driver: str, time: int) -> None:
         if time < self.options.end:
             self.name(driver, self.drivers, MAX_DRIVERS)
-        by_direction = self.direction_priority(event.flags)
-        if not early:
-            self.attempts.append(Request(time, event.device, driver, 0, place=event.place, by_direction=by_direction))
-            return
-        first = early[0]
-        first.seen, first.arrival, first.driver, first.by_direction = True, first.started or 0, driver, by_direction
-        first.size = event.end - (event.place or 0)
-        self.counts["without_arrival"] -= 1
-        self.counts["early_starts"] += 1
-
-    @property
-    def early_all(self) -> list[Request]:
-        """Those whose arrival wasn't seen."""
-        return [it for it in self.attempts if not it.seen]
 
     def all(self) -> list[Request]:
         seen = [it for it in self.attempts if it.seen and it.kept]
         for it in seen:
             it.priority = self.priority(it.driver, it.by_class, it.by_direction)
-        idle = [r.device for r in seen if r.device not in self.starts]
+        self.early_all = [it for it in self.attempts if not it.seen]
+        self.counts["without_arrival"] = sum(it.put_back is None for it in self.early_all)
+        idle = [it.device for it in seen if it.device not in self.starts]
         self.counts["requests_without_starts"] = len(idle) + sum(d not in self.starts for d in self.ended)
-        self.counts["without_start"] = sum(d in self.starts for d in self.ended)
-        return [r for r in seen if r.device in self.starts]
+        self.counts["lost_starts"] = sum(d in self.starts for d in self.ended)
+        self.sort_unknown()
+        return [it for it in seen if it.device in self.starts]
+
+    def sort_unknown(self) -> None:
+        """Of what was completed and not seen before: flights from before the capture, if they then took no longer than others of the device;
+        the others have lost their starts."""
+        longest: dict[str, int] = {}
+        for it in self.attempts:
+            if it.completed is not None and it.started is not None:
+                longest[it.device] = max(longest.get(it.device, 0), it.completed - it.started)
+        begin = self.begin or 0
+        for device, time in self.unknown:
+            if device not in self.starts:
+                self.counts["requests_without_starts"] += 1
+            elif time > begin + longest.get(device, 0):
+                self.counts["lost_starts"] += 1
+            else:
+                # (one that ends where the capture begins holds no slot)
+                self.counts["from_before"] += 1
+                self.before.append((self.options.listed(device) or "", begin, time))
 
 
 class Blkparse(Events):
@@ -288,18 +387,18 @@ class Blkparse(Events):
             return time, None
         process = re.search(r"\[(.*)\]", rest, re.S)
         must(re.fullmatch("[A-Z]+", head[7]) is not None and process is not None)
-        place, end = self.extent(rest)
-        return time, Event(head[1], action, head[7], place, end, process[1] if process else "", head[5])
+        sector, sectors = self.extent(rest)
+        return time, Event(head[1], action, head[7], sector, sectors, process[1] if process else "", head[5])
 
     @staticmethod
     def extent(rest: str) -> tuple[int | None, int]:
-        """The first sector and the end. Of a flush None, of a command of SG_IO -1."""
+        """The first sector, if there is one, and how many there are. (Before a command stands its count of bytes, but not where it ends.)"""
         words = rest.split()
         if words[0][0] in "[(":
-            return (None if words[0][0] == "[" else -1), 0
+            return None, 0
         sector, kind = number(words[0]), words[1][0] if len(words) > 1 else ""
         must(kind in ("+", "(", "[") and (kind != "+" or len(words) > 2))
-        return {"(": (-1, 0), "[": (None, 0)}.get(kind) or (sector, sector + number(words[2]))
+        return sector, number(words[2]) if kind == "+" else 0
 
 
 class Tracepoints(Events):
@@ -318,15 +417,11 @@ class Tracepoints(Events):
         rest = re.fullmatch(r"\s*(\d+,\d+)\s+([A-Z]+)\s+" + (form or "()()") + r"(\d+)\s+\+\s+(\d+)\s+(?:([^\s\[]\S*)\s+)?\[(.*)\][^\]]*", head[6], re.A | re.S)
         if rest is None:
             raise Refused
-        device, flags, size, command, sector, sectors, ioprio, process = rest.groups()
-        place: int | None = number(sector)
-        if command or (number(sectors) == 0 and int(size or 0) > 0):
-            place = -1
-        elif number(sectors) == 0:
-            place = None
+        device, flags, _, command, sector, sectors, ioprio, process = rest.groups()
+        place, count = number(sector), number(sectors)
         task = re.sub(r"\s*\(.*\)$", "", head[1].strip(BLANKS))
         pid = re.search(r"\d*$", task, re.A)
-        return time, Event(device, EVENTS[kind], flags, place, number(sector) + number(sectors), process, pid[0] if pid else "", self.by_class(ioprio))
+        return time, Event(device, EVENTS[kind], flags, place, 0 if command else count, process, pid[0] if pid else "", self.by_class(ioprio))
 
     @staticmethod
     def by_class(ioprio: str | None) -> int | None:
@@ -337,6 +432,8 @@ class Tracepoints(Events):
 
 
 class Fio(Reader):
+    tells_flights = False
+
     def __init__(self, options: Options) -> None:
         super().__init__(options)
         self.jobs: dict[str, list[tuple[tuple[int, ...], Request]]] = {}
@@ -457,6 +554,12 @@ class Csv(Reader):
         taken = self.options.begin <= request.arrival < self.options.end
         self.counts["early_starts"] += is_early and taken
         self.add(request, taken)
+        self.note(request)
+
+    def note(self, request: Request) -> None:
+        """Gives a request the number of its line, and notes how late the table is then."""
+        request.number = len(self.requests) + len(self.early_all)
+        self.last = max([self.last, *(time for time in (request.arrival, request.started, request.completed) if time is not None)])
 
     def all(self) -> list[Request]:
         if not self.header:
@@ -469,7 +572,6 @@ class Biosnoop(Csv):
 
     def __init__(self, options: Options) -> None:
         super().__init__(options, 6)
-        self.early_all: list[Request] = []
 
     def take(self, line: str) -> None:
         words = line.split()
@@ -497,6 +599,7 @@ class Biosnoop(Csv):
             self.counts["without_arrival"] += 1
             self.name(self.options.listed(device) or "", self.devices, 2**64)
             self.early_all.append(request)
+            self.note(request)
 
     def all(self) -> list[Request]:
         return self.requests

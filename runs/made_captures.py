@@ -6,7 +6,7 @@ import random
 from dataclasses import dataclass, field, replace
 
 from slots_model import Capture, Request, read_blkparse
-from imported_model import Options
+from imported_model import FLUSH, Options
 
 DRIVERS = ("db", "web", "log", "backup")
 PRIORITIES = (("db", 16), ("web", 896), ("backup", 1248))
@@ -55,17 +55,19 @@ def by_chance(rng: random.Random, device: str, how: str) -> list[list[Request]]:
     for at in range(rng.randint(1, 14)):
         arrival, driver, attempts = rng.randint(0, 250), rng.choice(DRIVERS), []
         is_flush = at == 0 and rng.random() < 0.3
+        driver = FLUSH if is_flush else driver
         if rng.random() < 0.1 and not is_flush:
             arrival = None
         for attempt in range(5):
             priority = 0 if arrival is None else dict(PRIORITIES).get(driver, 640)
             if arrival is not None and (attempt == 4 or rng.random() < 0.07):
-                attempts.append(Request(device, driver, priority, arrival, None, is_flush=is_flush))
+                # (a flush is a request as soon as it is started)
+                attempts += [] if is_flush else [Request(device, driver, priority, arrival, None)]
                 break
             start = (arrival or rng.randint(0, 120)) + rng.choice([0, 0, 1, rng.randint(0, 90)])
             if arrival is None and attempts:
                 start = attempts[-1].put_back + rng.randint(0, 20)
-            attempts.append(Request(device, driver, priority, arrival, start, *ends(rng, start, how), is_flush))
+            attempts.append(Request(device, driver, priority, start if is_flush else arrival, start, *ends(rng, start, how)))
             if attempts[-1].put_back is None:
                 break
             # The next attempt arrives where this one is put back, unless nobody knows when it arrived.
@@ -100,7 +102,7 @@ def lines(requests: list[list[Request]]) -> list[tuple[int, int, int, str]]:
     """The events of these requests, each with its time and its place among those of its time."""
     found = []
     for number, attempts in enumerate(requests):
-        device, driver, is_flush = attempts[0].device, attempts[0].driver, attempts[0].is_flush
+        device, driver, is_flush = attempts[0].device, attempts[0].driver, attempts[0].driver == FLUSH
         place, flags = ("", "FN") if is_flush else (f"{number * 64} + 8", "R")
         for at, attempt in enumerate(attempts):
             # A next attempt arrives by the line that puts back the one before.

@@ -36,8 +36,8 @@ import waits_model
 from imported_recording import UNITS
 from made_captures import Made, made, with_links
 from program import build, program
-from slots_model import Capture, Refused, Request, Rounds
-from slow_slots import SlowDevice, SlowRecording, slow_caps
+from slots_model import Capture, Flights, Request, Rounds
+from slow_slots import SlowDevice, SlowFlights, SlowRecording, slow_caps
 from waits_model import Recording
 
 RANKS = {"p50": 500, "p90": 900, "p99": 990, "p999": 999, "max": 1000}
@@ -60,25 +60,19 @@ def hold_reading(given: Made) -> Capture:
     capture = given.capture()
     known = [request for request in capture.requests if request.arrival is not None]
     early = [request for request in capture.requests if request.arrival is None]
-    same("requests", known + sorted(early, key=lambda request: request.start), given.attempts)
+    # (nobody knows whose request it was that arrived before)
+    due = [request if request.arrival is not None else replace(request, driver="") for request in given.attempts]
+    same("requests", known + sorted(early, key=lambda request: request.start), due)
     return capture
 
 
-def hold_slots(given: Made, capture: Capture) -> tuple[Capture, int]:
-    """Slots, service time, spare starts and caps. A depth below what was in flight is refused, and then left out. The spare starts."""
+def hold_slots(given: Made, capture: Capture) -> int:
+    """Flights, slots, service time, spare starts and caps. The spare starts."""
     begin, starts = capture.taken()[0].arrival, 0
     for name in capture.devices:
         slow = SlowDevice(capture, name)
-        if slow.can_be_seen and capture.depths.get(name, slow.most) < slow.most:
-            try:
-                slots_model.device_of(capture, name, begin, given.span)
-            except Refused as why:
-                same("the depth", str(why), f"{name}: {slow.most} were in flight")
-            else:
-                raise Differs(f"{name}: {slow.most} were in flight, and {capture.depths[name]} are taken")
-            del capture.depths[name]
-            slow = SlowDevice(capture, name)
         device = slots_model.device_of(capture, name, begin, given.span)
+        hold_flights(name, slow.flights, device.flights, name in capture.depths)
         if not slow.can_be_seen:
             same(f"{name}, not seen", (device.service, device.spare_starts), (None, 0))
             continue
@@ -88,7 +82,19 @@ def hold_slots(given: Made, capture: Capture) -> tuple[Capture, int]:
             by_round[1 + (at - begin) // given.span] = by_round.get(1 + (at - begin) // given.span, 0) + 1
         same(f"{name}, spare starts", dict(device.spare), by_round)
         starts += device.spare_starts
-    return capture, starts
+    return starts
+
+
+def hold_flights(name: str, slow: SlowFlights, flights: Flights, has_depth: bool) -> None:
+    """Until when each slot was held. No more are in flight than there are slots, and unless a depth is given, just those are cut that
+    lack their ends."""
+    given = sorted((flight.number, flight.start, flight.end, flight.is_missing) for flight in flights.all)
+    same(f"{name}, flights", given, [(at, it.start, slow.until[at], slow.is_missing[at]) for at, it in enumerate(slow.own)])
+    same(f"{name}, slots, and the ns of each number in flight", (flights.slots, flights.ns), (slow.slots, slow.ns))
+    same(f"{name}, more than its slots", max([0, *(len(slow.at(time)) for time in slow.times)]) > slow.slots, False)
+    if not has_depth:
+        cut = [at for at, end in enumerate(slow.until) if end < slow.uncut[at]]
+        same(f"{name}, what is cut and is known", [at for at in cut if not slow.is_missing[at]], [])
 
 
 def hold_caps(given: Made, capture: Capture) -> tuple[Recording, str]:
@@ -159,17 +165,18 @@ def hold_latency(recording: Recording, unit: int) -> None:
 
 
 def hold_import(given: Made, capture: Capture, text: str) -> None:
-    """What the program's `import` prints, by depths that aren't refused."""
+    """What the program's `import` prints."""
     with tempfile.NamedTemporaryFile("w", suffix=".blkparse") as file:
         file.write(given.text)
         file.flush()
-        words = replace(given, depths=capture.depths).words()
+        words = given.words()
         done = subprocess.run([program, "import", *words, file.name], capture_output=True, text=True)
-    same(f"import {' '.join(words)}", (done.returncode, done.stdout), (0, text))
+    # (a line of what was counted comes first)
+    same(f"import {' '.join(words)}", (done.returncode, done.stdout.partition("\n")[2]), (0, text))
 
 
 def hold_made(count: int, with_import: bool) -> None:
-    numbers = {"held": 0, "requests": 0, "spare": 0, "by_last": 0, "deep": 0}
+    numbers = {"held": 0, "requests": 0, "spare": 0, "by_last": 0, "deep": 0, "missing": 0}
     live = pace = best = tried = 0
     while numbers["held"] < count:
         given = made(tried)
@@ -177,7 +184,8 @@ def hold_made(count: int, with_import: bool) -> None:
         if given is None:
             continue
         try:
-            capture, spare = hold_slots(given, hold_reading(given))
+            capture = hold_reading(given)
+            spare = hold_slots(given, capture)
             if with_import:
                 hold_import(given, capture, Rounds(capture, given.span).text((given.span, "ns")))
             recording, text = hold_caps(given, capture)
@@ -189,10 +197,12 @@ def hold_made(count: int, with_import: bool) -> None:
         devices = Rounds(capture, given.span).devices.values()
         numbers = {"held": numbers["held"] + 1, "requests": numbers["requests"] + len(capture.requests), "spare": numbers["spare"] + spare,
                    "by_last": numbers["by_last"] + sum(device.by_last_slot >= slots_model.ENOUGH for device in devices),
-                   "deep": numbers["deep"] + sum(device.slots > device.in_flight for device in devices if device.service)}
+                   "deep": numbers["deep"] + sum(device.slots > device.in_flight for device in devices if device.service),
+                   "missing": numbers["missing"] + sum(device.flights.missing for device in devices)}
         live, pace, best = live + costs["live"], pace + costs["pace"], best + costs["best"]
     print(f"{count} made captures alike: {numbers['requests']} attempts, {numbers['spare']} spare starts, {numbers['by_last']} devices with"
-          f" a service time by the last slot, {numbers['deep']} with a greater depth; recorded {live}, at the recorded pace {pace}, best {best}",
+          f" a service time by the last slot, {numbers['deep']} with a greater depth, {numbers['missing']} flights whose completions are missing;"
+          f" recorded {live}, at the recorded pace {pace}, best {best}",
           flush=True)
 
 

@@ -1,6 +1,6 @@
 #!/usr/bin/env python3
-"""Reckons from the requests of a capture what a disk could have taken: slots, service time, spare starts and caps; and the recording, of
-either version. Times of requests are whole nanoseconds, and all numbers exact integers. `waits_model.py` goes on from the recording.
+"""Reckons from the requests of a capture what a disk could have taken: flights, slots, service time, spare starts and caps; and the
+recording, of either version. Times of requests are whole nanoseconds, and all numbers exact integers. `waits_model.py` goes on from the recording.
 
 Run as a script it is `slots_held.py`, which holds both against a slow reckoning and against the figures of real captures."""
 from __future__ import annotations
@@ -21,7 +21,8 @@ ENOUGH = 16
 @dataclass(frozen=True)
 class Request:
     """One attempt of a request, in ns. Without an arrival: the capture began later. Without a start: it was never started. It ends by
-    a completion, or is put back, or neither is known. A flush holds no slot."""
+    a completion, or is put back, or neither is known. A write may be completed a second time, when its slot has long been free.
+    `number` is its place in the order of arrivals, and of equal ones of the lines."""
     device: str
     driver: str
     priority: int
@@ -29,14 +30,16 @@ class Request:
     start: int | None
     completion: int | None = None
     put_back: int | None = None
-    is_flush: bool = False
+    second: int | None = None
+    number: int = field(default=0, compare=False)
 
 
 @dataclass
 class Capture:
     """All attempts of the devices that are taken, those with an arrival by arrival; and what the options say: the times that are
     taken, from `begin` up to before `end`; the adapter and its openings of a device; the openings that a device is rated at; and its
-    slots. The names of devices and drivers are in the order of their numbers. `links` (no capture has them) are the openings of each
+    slots. The names of devices and drivers are in the order of their numbers. `before` are flights that began before the capture: device,
+    begin of the capture, and end. `last` is the latest time of the capture. `links` (no capture has them) are the openings of each
     link, and `on_link` says on which one an adapter is."""
     requests: list[Request]
     devices: list[str]
@@ -46,6 +49,8 @@ class Capture:
     hosts: dict[str, tuple[int, int]] = field(default_factory=dict)
     rated: dict[str, int] = field(default_factory=dict)
     depths: dict[str, int] = field(default_factory=dict)
+    before: list[tuple[str, int, int]] = field(default_factory=list)
+    last: int = 0
     links: list[int] = field(default_factory=list)
     on_link: dict[int, int] = field(default_factory=dict)
 
@@ -61,10 +66,10 @@ class Capture:
 
 
 class Refused(Exception):
-    """What the options say can't be."""
+    """What the options say can't be. (Windows refuse a depth below what was in flight; a whole capture is cut to it.)"""
 
 
-# Slots
+# Flights and slots
 
 
 def mean(times: list[int]) -> int:
@@ -73,18 +78,73 @@ def mean(times: list[int]) -> int:
 
 
 def times_of_service(requests: list[Request]) -> list[int]:
-    return [r.completion - r.start for r in requests if r.completion is not None and r.start is not None and not r.is_flush]
+    return [r.completion - r.start for r in requests if r.completion is not None and r.start is not None]
 
 
-def in_slots(requests: list[Request]) -> list[tuple[Request, int, int]]:
-    """Who holds a slot, from when and until when. A completion has to be known."""
-    usual = mean(times_of_service(requests))
-    held = []
-    for request in requests:
-        if request.start is not None and not request.is_flush:
-            known = [time for time in (request.completion, request.put_back) if time is not None]
-            held.append((request, request.start, known[0] if known else request.start + usual))
-    return held
+@dataclass
+class Flight:
+    """A request in flight, up to its end. If that is of its completion, the flight says how long the service is; if the capture lacks the
+    completion, it is missing, and the end is a guess."""
+    number: int
+    start: int
+    end: int
+    is_completed: bool = False
+    is_missing: bool = False
+
+
+class Flights:
+    """The flights of a device, by their starts, each until its slot is free, with no more at a time than the device has slots; and for how
+    many ns just 1, 2, .. were in flight. If no completion of the device is known (`is_known`), none counts as missing."""
+
+    def __init__(self, capture: Capture, name: str) -> None:
+        own = sorted((it for it in capture.of(name) if it.start is not None), key=lambda it: it.number)
+        services = times_of_service(own)
+        usual, longest = (mean(services), max(services)) if services else (0, 0)
+        last = max((it.completion for it in own if it.completion is not None), default=0)
+        self.is_known, self.started = bool(services), len(own)
+        flights = [Flight(0, begin, end) for device, begin, end in capture.before if device == name]
+        for it in own:
+            if it.completion is not None or it.put_back is not None:
+                flights.append(Flight(0, it.start, it.put_back if it.completion is None else it.completion, it.completion is not None))
+            elif services and it.start + longest < last:
+                # (others that were started with it, or later, are completed: it has lost its completion)
+                flights.append(Flight(0, it.start, it.start + usual, is_missing=True))
+            else:
+                flights.append(Flight(0, it.start, max(capture.last, it.start + usual)))
+        for number, flight in enumerate(flights):
+            flight.number = number
+        self.missing = sum(flight.is_missing for flight in flights)
+        known = counts([(it.start, it.end) for it in flights if not it.is_missing and it.start < it.end])
+        self.slots = capture.depths.get(name, max([1, *(number for _, number in known)]))
+        self.all = sorted(flights, key=lambda it: (it.start, it.number))
+        self.cut()
+        flying = counts([(it.start, it.end) for it in self.all if it.start < it.end])
+        self.ns = [0] * max([0, *(number for _, number in flying)])
+        for (first, number), (end, _) in zip(flying, flying[1:]):
+            if number:
+                self.ns[number - 1] += end - first
+
+    def cut(self) -> None:
+        """Ends a flight wherever one starts for which no slot is free."""
+        flying: list[Flight] = []
+        for flight in self.all:
+            if flight.start < flight.end:
+                flying = [it for it in flying if it.end > flight.start]
+                if len(flying) == self.slots:
+                    ended = self.first_to_go(flying, flight)
+                    ended.end = flight.start
+                flying.append(flight)
+
+    @staticmethod
+    def first_to_go(flying: list[Flight], new: Flight) -> Flight:
+        """The one that ends where a new one starts: one whose end is a guess before others, and of these that which would end last. The new
+        one doesn't go if another one was there before it."""
+        guessed = [it for it in flying if it.is_missing] or [new] * new.is_missing
+        is_new_alike = all(it.start == new.start for it in flying)
+        return max(guessed or [*flying, *[new] * is_new_alike], key=lambda it: (it.end, it.number))
+
+    def times_of_service(self) -> list[int]:
+        return [it.end - it.start for it in self.all if it.is_completed]
 
 
 def counts(spans: list[tuple[int, int]]) -> list[tuple[int, int]]:
@@ -99,12 +159,14 @@ def counts(spans: list[tuple[int, int]]) -> list[tuple[int, int]]:
 
 @dataclass
 class Device:
-    """What a device could have taken. `spans` are those in which a level is idle and a request waits: the level, the first ns, and the
-    first one after it. `spare` are the spare starts by round. Where slots can't be seen, there is no service time."""
+    """What a device could have taken. `in_flight` is the most at one time. `spans` are those in which a level is idle and a request waits:
+    the level, the first ns, and the first one after it. `spare` are the spare starts by round. Where slots can't be seen, there is no
+    service time."""
     slots: int
     in_flight: int
     service: int | None
     by_last_slot: int = 0
+    flights: Flights | None = None
     spans: list[tuple[int, int, int]] = field(default_factory=list)
     spare: collections.Counter[int] = field(default_factory=collections.Counter)
 
@@ -115,21 +177,18 @@ class Device:
 
 def device_of(capture: Capture, name: str, begin: int, span: int) -> Device:
     """What a device could have taken, in rounds of so many ns from `begin` on."""
-    own = capture.of(name)
-    if not any(times_of_service(own)):
-        return Device(1, 0, None)
-    held = in_slots(own)
-    flying = counts([(first, end) for _, first, end in held if first < end])
+    flights = Flights(capture, name)
+    if not any(flights.times_of_service()):
+        return Device(flights.slots, 0, None, flights=flights)
+    flying = counts([(it.start, it.end) for it in flights.all if it.start < it.end])
     most = max(number for _, number in flying)
-    if capture.depths.get(name, most) < most:
-        raise Refused(f"{name}: {most} were in flight")
-    device = Device(capture.depths.get(name, most), most, None)
+    device = Device(flights.slots, most, None, flights=flights)
     # The last slot is taken by who was in flight when it was started, and as many as ever with it.
     at = dict(flying)
-    took = times_of_service([request for request, first, end in held if first < end and at.get(first) == most])
+    took = [it.end - it.start for it in flights.all if it.is_completed and it.start < it.end and at.get(it.start) == most]
     device.by_last_slot = len(took)
-    device.service = mean(took if len(took) >= ENOUGH else times_of_service(own))
-    waiting = counts([(r.arrival, r.start) for r in own if capture.is_taken(r) and r.arrival < r.start])
+    device.service = mean(took if len(took) >= ENOUGH else flights.times_of_service())
+    waiting = counts([(r.arrival, r.start) for r in capture.of(name) if capture.is_taken(r) and r.arrival < r.start])
     device.spans = idle_spans(device.slots, flying, waiting)
     for _, first, end in device.spans:
         spread(device.spare, first, (end - first) // device.service, device.service, begin, span)
@@ -207,8 +266,8 @@ class Rounds:
         return sent[1:], [number > 0 for number in itertools.accumulate(change)][1:self.last + 1]
 
     def done(self, request: Request) -> int | str:
-        """The round in which a request was completed, or nothing, if that isn't known or is too late for a recording."""
-        done = None if request.completion is None else self.at(request.completion)
+        """The round in which a request was completed at last, or nothing, if that isn't known or is too late for a recording."""
+        done = None if request.completion is None else self.at(request.second or request.completion)
         return "" if done is None or done > MAX_ROUND else done
 
     def resources(self) -> Resources:
@@ -266,14 +325,21 @@ def cap_rows(kind: str, caps: list[list[int]], openings: list[int]) -> list[tupl
 
 def capture_of(reader: imported_model.Reader, **more: dict) -> Capture:
     """The capture that a finished reader has read."""
-    options, are_events = reader.options, isinstance(reader, imported_model.Events)
-    requests = [(request, request.device, request.arrival) for request in reader.found]
-    requests += [(request, options.listed(request.device), None) for request in getattr(reader, "early_all", [])]
-    attempts = [Request(device, r.driver, r.priority, arrival, r.started, r.completed, r.put_back, are_events and r.place is None)
-                for r, device, arrival in requests]
+    options = reader.options
+    requests = [(request, request.arrival) for request in reader.found] + [(request, None) for request in reader.early_all]
+    attempts = [Request(r.device, r.driver, r.priority, arrival, r.started, r.completed, r.put_back, r.second, r.number) for r, arrival in requests]
     hosts = {name: (adapter, openings) for name, adapter, openings in options.hosts}
-    given = {"rated": dict(options.rated), "depths": dict(options.depths), **more}
+    given = {"rated": dict(options.rated), "depths": dict(options.depths), "before": list(reader.before), "last": reader.last, **more}
     return Capture(attempts, list(reader.devices), list(reader.drivers), options.begin, options.end, hosts, **given)
+
+
+def counted(reader: imported_model.Reader, rounds: Rounds) -> dict:
+    """What stands before a recording: what the capture lacks, and for how long how many were in flight."""
+    known = {name: device.flights for name, device in rounds.devices.items() if device.flights.is_known}
+    return {"lost_events": 0, "written_events": 0, **{name: reader.counts[name] for name in ("without_arrival", "lost_starts", "from_before")},
+            "missing_completions": sum(it.missing for it in known.values()), "started": sum(it.started for it in known.values()),
+            "still_waiting": reader.counts["still_waiting"], "longest_wait_ns": reader.longest_wait,
+            "slots": [{"device": name, "slots": it.slots, "in_flight_ns": it.ns} for name, it in known.items()]}
 
 
 def read_blkparse(text: str, options: imported_model.Options, **more: dict) -> Capture:

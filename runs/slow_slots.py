@@ -5,49 +5,86 @@ from __future__ import annotations
 from slots_model import Capture, Request
 
 
-def held_until(own: list[Request], request: Request) -> int:
-    """When a request that was started gives its slot back; at its start, if it holds none."""
-    if request.is_flush:
-        return request.start
-    if request.completion is not None:
-        return request.completion
-    if request.put_back is not None:
-        return request.put_back
-    total = count = 0
-    for other in own:
-        if other.start is not None and other.completion is not None and not other.is_flush:
-            total, count = total + other.completion - other.start, count + 1
-    while total % count:
-        total += 1
-    return request.start + total // count
+class SlowFlights:
+    """Who holds a slot of a device, and until when: `until` is by the place in `own`, after the flights from before the capture."""
+
+    def __init__(self, capture: Capture, name: str) -> None:
+        before = [Request(name, "", 0, None, begin, put_back=end) for device, begin, end in capture.before if device == name]
+        started = [request for request in capture.requests if request.device == name and request.start is not None]
+        self.own = before + sorted(started, key=lambda request: request.number)
+        self.done = [at for at, request in enumerate(self.own) if request.completion is not None]
+        self.until, self.is_missing = [], []
+        for request in self.own:
+            self.is_missing.append(self.has_lost_its_end(request))
+            known = [time for time in (request.completion, request.put_back) if time is not None]
+            guess = request.start + self.mean()
+            self.until.append(known[0] if known else guess if self.is_missing[-1] else max(guess, capture.last))
+        self.times = range(min([request.start for request in self.own], default=0), max(self.until, default=0))
+        known = [[at for at in self.at(time) if not self.is_missing[at]] for time in self.times]
+        self.slots = capture.depths.get(name, max([1, *map(len, known)]))
+        self.uncut = list(self.until)
+        self.cut()
+        most = max([0, *(len(self.at(time)) for time in self.times)])
+        self.ns = [sum(len(self.at(time)) == number for time in self.times) for number in range(1, most + 1)]
+
+    def at(self, time: int) -> list[int]:
+        return [at for at, request in enumerate(self.own) if request.start <= time < self.until[at]]
+
+    def has_lost_its_end(self, request: Request) -> bool:
+        """Whether it has no end though one that took as long as any would have ended before the last one that did."""
+        if request.completion is not None or request.put_back is not None:
+            return False
+        others = [self.own[at] for at in self.done]
+        return bool(others) and all(request.start + it.completion - it.start < max(it.completion for it in others) for it in others)
+
+    def mean(self) -> int:
+        """Of the services, rounded up."""
+        total = sum(self.own[at].completion - self.own[at].start for at in self.done)
+        while total % max(1, len(self.done)):
+            total += 1
+        return total // max(1, len(self.done))
+
+    def cut(self) -> None:
+        """Plays ns by ns what starts then, and ends what has no slot any more."""
+        for time in self.times:
+            there = [at for at, request in enumerate(self.own) if request.start < time < self.until[at]]
+            for new in [at for at, request in enumerate(self.own) if request.start == time < self.until[at]]:
+                if len(there) == self.slots:
+                    going = [at for at in there if self.is_missing[at]] or [new][:self.is_missing[new]] or there
+                    if going is there and all(self.own[at].start == time for at in there):
+                        going = [*there, new]
+                    going = [at for at in going if self.until[at] == max(self.until[it] for it in going)]
+                    self.until[max(going)] = time
+                    there = [at for at in there if self.until[at] > time]
+                there += [new][:self.until[new] > time]
+
+    def services(self) -> list[int]:
+        return [self.until[at] - self.own[at].start for at in self.done]
 
 
 class SlowDevice:
     """The slots of a device, its service time, and its spare starts by their times, of each level. None if slots can't be seen."""
 
     def __init__(self, capture: Capture, name: str) -> None:
-        self.own = [request for request in capture.requests if request.device == name]
-        self.can_be_seen = any(r.completion is not None and r.start is not None and r.completion > r.start and not r.is_flush for r in self.own)
+        self.flights = SlowFlights(capture, name)
+        self.slots, started = self.flights.slots, [request for request in capture.requests if request.device == name and request.start is not None]
+        self.can_be_seen = any(self.flights.services())
         if not self.can_be_seen:
             return
-        started = [request for request in self.own if request.start is not None]
-        self.spans = [(request.start, held_until(self.own, request)) for request in started]
-        times = range(min(request.start for request in started), 1 + max(request.start for request in started))
-        self.most = max(self.flying(time) for time in times)
-        self.slots = capture.depths.get(name, max(1, self.most))
-        self.service = self.time_of_service(started)
+        self.counts = {time: len(self.flights.at(time)) for time in self.flights.times}
+        self.most = max(self.counts.values())
+        self.service = self.time_of_service()
         waits = [(r.arrival, r.start) for r in started if r.arrival is not None and capture.begin <= r.arrival < capture.end]
-        first = min([arrival for arrival, _ in waits], default=0)
-        self.spare = [time for level in range(1, self.slots + 1) for time in self.spare_at(level, waits, range(first, times[-1] + 2))]
+        times = range(min([arrival for arrival, _ in waits], default=0), max(request.start for request in started) + 2)
+        self.spare = [time for level in range(1, self.slots + 1) for time in self.spare_at(level, waits, times)]
 
     def flying(self, time: int) -> int:
-        return sum(start <= time < end for start, end in self.spans)
+        return self.counts.get(time, 0)
 
-    def time_of_service(self, started: list[Request]) -> int:
-        last = [r.completion - r.start for r in started if r.completion is not None and not r.is_flush
-                and r.completion > r.start and self.flying(r.start) == self.most]
-        if len(last) < 16:
-            last = [r.completion - r.start for r in started if r.completion is not None and not r.is_flush]
+    def time_of_service(self) -> int:
+        times = self.flights.services()
+        last = [took for at, took in zip(self.flights.done, times) if took and self.flying(self.flights.own[at].start) == self.most]
+        last = times if len(last) < 16 else last
         return next(time for time in range(1, 10**6) if time * len(last) >= sum(last))
 
     def spare_at(self, level: int, waits: list[tuple[int, int]], times: range) -> list[int]:

@@ -153,7 +153,7 @@ class Windows:
         end of the window after its own."""
         held = []
         for request in self.capture.of(name):
-            if request.start is not None and request.start < window.end and not request.is_flush:
+            if request.start is not None and request.start < window.end:
                 known = [time for time in (request.completion, request.put_back) if time is not None and time < window.end]
                 after = self.windows[self.own(request).place + 1:][:1]
                 held.append((request, request.start, min([*known[:1], window.end, *(it.end for it in after)])))
@@ -288,11 +288,15 @@ def within(spans: list[tuple[int, int]], window: Window) -> list[tuple[int, int]
     return [(first, end) for first, end in cut if first < end]
 
 
+def numbered(used: list[int | None]) -> list[int | None]:
+    """The adapters of a recording: those that options name by their numbers, with the ones between them, and then that of the other devices."""
+    return [*range(1 + max([it for it in used if it is not None], default=-1)), *([None] if None in used else [])]
+
+
 def recording(rounds: int, devices: list[str], adapter_of, caps: Caps, requests: list[tuple], span: int) -> str:
     """The text of a recording of these devices and requests."""
     used = list(map(adapter_of, devices))
-    # Those that options name come by their numbers, with the ones between them, and then the one of the other devices.
-    adapters = [*range(1 + max([it for it in used if it is not None], default=-1)), *([None] if None in used else [])]
+    adapters = numbered(used)
     rows = [("camrecord2", *"abcdefg"), ("unit", *imported_recording.exact(span)), ("rounds", rounds)]
     rows += [("weight", *row) for row in imported_recording.WEIGHTS]
     rows += [("sim", caps.adapter_openings.get(adapter, 1) if adapter in used else 1, "") for adapter in adapters]
@@ -350,13 +354,13 @@ class Sums:
 def hold_caps(cut: Windows) -> None:
     """Devices and adapters take in the rounds of a window what they take there in the whole."""
     whole, devices = nets.read(cut.whole()), cut.capture.devices
-    adapters = list(dict.fromkeys(map(cut.adapter_of, devices)))
+    adapters = numbered(list(map(cut.adapter_of, devices)))
     for window in cut.windows:
         if window.requests:
             net = nets.read(cut.text(window))
             pairs = [(("dev", number), ("dev", devices.index(name))) for number, name in enumerate(window.devices)]
-            pairs += [(("sim", number), ("sim", adapters.index(adapter)))
-                      for number, adapter in enumerate(dict.fromkeys(map(cut.adapter_of, window.devices)))]
+            used = list(map(cut.adapter_of, window.devices))
+            pairs += [(("sim", numbered(used).index(adapter)), ("sim", adapters.index(adapter))) for adapter in dict.fromkeys(used)]
             for own, other in pairs:
                 same(f"caps of window {window.place}", net.caps[own][1:], whole.caps[other][window.first:window.last + 1])
 

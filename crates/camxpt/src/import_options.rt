@@ -8,7 +8,6 @@ use crate::import_words::{
 use capture_file::Options;
 use clap::ArgMatches;
 use recording_file::Span;
-use std::alloc::Global;
 use window_recordings::Layout;
 
 /// What the words of `import` ask for.
@@ -30,7 +29,8 @@ impl ImportOptions {
     /// # Errors
     ///
     /// `NamedArgument` of a word that hasn't its form, or that contradicts an earlier one; `OutOfMemory`.
-    pub fn of(alloc: Global, words: &ArgMatches<'_>) -> Result<ImportOptions, ImportFault> {
+    pub fn of(rt: &HostRuntime, words: &ArgMatches<'_>) -> Result<ImportOptions, ImportFault> {
+        let alloc = rt.alloc();
         check_files(words)?;
         let kind = kind_of(words)?;
         Ok(ImportOptions {
@@ -40,7 +40,7 @@ impl ImportOptions {
                 priorities: priorities_of(words)?,
                 driver_by: driver_by(words, kind)?,
                 drivers: numbers_of(alloc, words, &DRIVER)?,
-                devices: picks_of(alloc, words)?,
+                devices: picks_of(rt, words)?,
                 from_time: time_of(words, "from-time")?,
                 to_time: time_of(words, "to-time")?,
                 is_sorted: is_sorted(words),

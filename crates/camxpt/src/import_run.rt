@@ -7,18 +7,18 @@ use crate::import_fault::ImportFault;
 use crate::import_note::note_on;
 use crate::import_options::ImportOptions;
 use crate::import_warnings::{
-    SeenSlots, tell_counts, tell_early, tell_refused, tell_rooms, warn_columns, warn_missing,
-    warn_read, warn_recorded,
+    SeenSlots, facts_of, tell_counts, tell_early, tell_facts, tell_refused, tell_rooms, tell_slots,
+    warn_columns, warn_events, warn_missing, warn_read, warn_recorded,
 };
 use crate::import_words::{Kind, tolerance_of, window_of};
 use crate::note::{tell_note, tell_of};
-use crate::output::standard_output;
+use crate::output::{closed, is_unread, standard_output};
 use crate::source::{STANDARD_INPUT, is_verbose};
 use crate::window_files::WindowFiles;
 use crate::window_reader::{WindowReader, WindowSink};
 use crate::word_fault::WordFault;
 use crate::words::{count, word_at};
-use cam_types::Watched;
+use cam_types::{Watched, write_whole};
 use capture::{
     Capture, CaptureFault, longest_round, short_from, shortest_round, span_nanoseconds, usual_round,
 };
@@ -33,6 +33,7 @@ use slots::SlotsFault;
 use std::alloc::{AllocError, Global};
 use std::fs::File;
 use std::process::ExitCode;
+use views::facts_line;
 use window_recordings::value_of;
 
 /// Reads the files that the words name and prints their recording. Says on standard error what a round is, what was counted, and
@@ -42,7 +43,12 @@ pub fn import(rt: &HostRuntime, words: &ArgMatches<'_>) -> ExitCode {
     let mut refused = Refused::new(rt.alloc(), tolerance.unwrap_or(Tolerance::Few));
     match tolerance.and_then(|_| imported(rt, words, &mut refused)) {
         Ok(()) => ExitCode::SUCCESS,
-        Err(fault) => tell_fault(rt, words, &fault, refused.text()),
+        Err(fault) => {
+            if let ImportFault::Capture(CaptureFault::NothingStarted) = fault {
+                tell_refused(rt, words, &refused);
+            }
+            tell_fault(rt, words, &fault, refused.text())
+        }
     }
 }
 
@@ -53,6 +59,11 @@ pub fn tell_fault(
     fault: &ImportFault,
     line: &[u8],
 ) -> ExitCode {
+    if let ImportFault::WriteFailed(Some(error)) = fault
+        && is_unread(*error)
+    {
+        return ExitCode::SUCCESS;
+    }
     match subject(words, fault) {
         Some(name) => tell_of(rt, name, fault),
         None => {
@@ -81,7 +92,7 @@ fn imported(
     words: &ArgMatches<'_>,
     refused: &mut Refused,
 ) -> Result<(), ImportFault> {
-    let options = ImportOptions::of(rt.alloc(), words)?;
+    let options = ImportOptions::of(rt, words)?;
     let files = Files { rt, words };
     if let Some(window) = window_of(words)? {
         let mut sink = WindowFiles::new(rt, words.get_str("out").unwrap_or("."))?;
@@ -90,6 +101,7 @@ fn imported(
     let read = files.read(&options, refused)?;
     warn_missing(rt, &options, &read);
     warn_columns(rt, &read);
+    warn_events(rt, &options, &read);
     let round = round_for(rt.alloc(), options.round, &read)?;
     let round = Span {
         count: round.count.max(1),
@@ -110,10 +122,19 @@ fn imported(
     tell_counts(rt, round, &recording, &read.counts);
     tell_refused(rt, words, refused);
     tell_early(rt, &read.counts);
+    let facts = facts_of(rt.alloc(), &read)?;
+    tell_facts(rt, &facts, options.kind)?;
     tell_rooms(rt, &options, &read.devices, &rooms.seen);
+    tell_slots(rt, &options, &facts)?;
     warn_read(rt, round, &read);
     warn_recorded(rt, &options, &read, &recording);
     let mut out = standard_output(rt);
+    if options.kind != Kind::Fio {
+        let line = closed(facts_line(rt.alloc(), &facts))?;
+        if write_whole(&mut Watched::new(&mut out), line.as_bytes()).is_err() {
+            return Err(ImportFault::WriteFailed(out.failed()));
+        }
+    }
     match write_recording(rt.alloc(), &recording, &mut Watched::new(&mut out)) {
         Ok(()) => Ok(()),
         Err(WriteFault::WriteFailed) => Err(ImportFault::WriteFailed(out.failed())),
@@ -133,7 +154,7 @@ impl Files<'_, '_, '_> {
     fn read(&self, options: &ImportOptions, refused: &mut Refused) -> Result<Read, ImportFault> {
         if let Some(mut reader) = self.reader(options) {
             self.read_each(&mut reader, refused)?;
-            return Ok(reader.finish()?);
+            return Ok(reader.finish(&options.layout.depths)?);
         }
         let mut reader = FioReader::new(self.rt.alloc(), &options.taken);
         self.read_logs(&mut reader, refused)?;

@@ -11,6 +11,7 @@ use capture_file::{CsvTimeUnit as CsvUnit, DevicePick, DriverBy, Priorities, Tol
 use clap::ArgMatches;
 use recording_file::{Span, TimeUnit};
 use std::alloc::{AllocError, Global};
+use std::fs;
 use window_recordings::{Host, value_of};
 
 /// An option by which names get numbers.
@@ -52,7 +53,7 @@ pub const DEPTH: Numbering = Numbering {
 };
 
 /// What kind of text the files are.
-#[derive(Clone, Copy)]
+#[derive(Clone, Copy, PartialEq, Eq)]
 pub enum Kind {
     Blkparse,
     Tracepoints,
@@ -196,21 +197,47 @@ impl Numbering {
     }
 }
 
-/// The devices that are taken: with an equals sign those that match a pattern, as one device; else one by its name.
-pub fn picks_of(alloc: Global, words: &ArgMatches<'_>) -> Result<Vec<DevicePick>, ImportFault> {
+/// The devices that are taken: with an equals sign those that match a pattern, as one device; else one by its name, by its numbers, or by
+/// the name that this system has for it, also after `/dev/`.
+pub fn picks_of(rt: &HostRuntime, words: &ArgMatches<'_>) -> Result<Vec<DevicePick>, ImportFault> {
+    let alloc = rt.alloc();
     let mut picks = Vec::new(alloc);
     for place in 0..count(words, "device") {
         let word = word_at(words, "device", place);
-        picks.push(match word.rsplit_once('=') {
-            None => DevicePick::Name(String::from_str(alloc, word)?),
+        match word.rsplit_once('=') {
+            None => push_named(rt, &mut picks, word)?,
             Some((_, "")) => return Err(NamedArgument(WordFault::Pick)),
-            Some((pattern, name)) => DevicePick::Pattern {
+            Some((pattern, name)) => picks.push(DevicePick::Pattern {
                 pattern: String::from_str(alloc, pattern)?,
                 name: String::from_str(alloc, name)?,
-            },
-        })?;
+            })?,
+        }
     }
     Ok(picks)
+}
+
+// One device: by the numbers that this system has for its name, as which it is listed then, or as the word names it.
+fn push_named(rt: &HostRuntime, picks: &mut Vec<DevicePick>, word: &str) -> Result<(), AllocError> {
+    let alloc = rt.alloc();
+    let name = word.strip_prefix("/dev/").unwrap_or(word);
+    if let Some(pattern) = numbers_in_system(rt, name)? {
+        let name = String::from_str(alloc, name)?;
+        picks.push(DevicePick::Pattern { pattern, name })?;
+    }
+    picks.push(DevicePick::Name(String::from_str(alloc, name)?))?;
+    Ok(())
+}
+
+// The major and minor number that this system has for a block device, as `8:0`, if it has one of this name.
+fn numbers_in_system(rt: &HostRuntime, name: &str) -> Result<Option<String>, AllocError> {
+    if name.is_empty() || name.contains('/') || name.starts_with('.') {
+        return Ok(None);
+    }
+    let path = format!(in rt.alloc(); "/sys/class/block/{name}/dev")?;
+    let Ok(text) = fs::read_to_string(rt, &path) else {
+        return Ok(None);
+    };
+    Ok(Some(String::from_str(rt.alloc(), text.trim())?))
 }
 
 /// The devices whose adapters are given. A device has one adapter, and an adapter one number of openings.

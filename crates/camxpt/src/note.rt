@@ -4,6 +4,7 @@
 use crate::failure::Failure;
 use crate::source::{STANDARD_INPUT, Source};
 use audit_report::AuditFault;
+use capture_file::failed;
 use recording_file::RecordingFault;
 use report_text::ReportFault;
 use std::alloc::Global;
@@ -60,10 +61,25 @@ pub fn capture_note<D>(alloc: Global, failure: &Failure, input: &Source<'_, D>) 
     match failure {
         Failure::Audit(AuditFault::Trace(TraceFault::BadHeader))
         | Failure::Audit(AuditFault::Recording(RecordingFault::BadHeader)) => {
-            let (kind, what) = input.front().capture()?;
+            let front = input.front();
+            if front.is_empty() {
+                return format!(in alloc; "camxpt: there is nothing in it\n").ok();
+            }
+            if let Some(packed) = front.packed() {
+                return format!(in alloc; "camxpt: {packed}\n").ok();
+            }
+            let (kind, what) = front.capture()?;
             format!(in alloc;
-                "camxpt: this is {what}: `camxpt import --from {kind}` makes a recording of it\n"
+                "camxpt: this is a capture, {what}: `camxpt import --from {kind}` makes a recording of it\n"
             ).ok()
+        }
+        Failure::Audit(
+            AuditFault::Trace(TraceFault::ReadFailed)
+            | AuditFault::Recording(RecordingFault::ReadFailed),
+        ) if input
+            .failed()
+            .is_some_and(|error| failed(&error) != "read failed") => {
+            format!(in alloc; "camxpt: {}\n", failed(&input.failed()?)).ok()
         }
         _ => None,
     }

@@ -47,6 +47,11 @@ impl<W: Write> Write for Output<W> {
     }
 }
 
+/// Whether a write failed since whoever read the output has ended, as `head` does. Then nothing is left to do.
+pub fn is_unread(error: io::Error) -> bool {
+    error.kind() == io::ErrorKind::BrokenPipe
+}
+
 /// Standard output, to which nothing was written yet.
 pub fn standard_output(rt: &HostRuntime) -> Output<io::Printer<'_, HostRuntime>> {
     Output {

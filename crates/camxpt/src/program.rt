@@ -7,7 +7,7 @@ use crate::failure::Failure;
 use crate::import_run::import;
 use crate::limits::{Limit, limits_of};
 use crate::note::{STANDARD_OUTPUT, capture_note, note_on, reason_note, tell, tell_note, tell_of};
-use crate::output::{Output, print, standard_output};
+use crate::output::{Output, is_unread, print, standard_output};
 use crate::progress::ProgressLine;
 use crate::proof_run::prove;
 use crate::schedule_run::NewOrder;
@@ -25,6 +25,7 @@ use audit_report::AuditFault;
 use clap::ArgMatches;
 use clap::error::ErrorKind;
 use sim_worker::Ending;
+use std::alloc::{AllocError, Global};
 use std::io;
 use std::io::Read;
 use std::process::ExitCode;
@@ -71,16 +72,34 @@ fn read_and_obey<T: Threads + Wait + Sync>(
 fn show(rt: &HostRuntime, error: &clap::Error) -> Result<ExitCode, Failure> {
     if error.use_stderr() {
         let text = format!(in rt.alloc(); "{error}")?;
+        let text = with_limit(rt.alloc(), &text)?;
         let _ = rt.eprint(&shown_lines(rt.alloc(), &text)?);
         return Ok(ExitCode::from(2));
     }
     match error.print(rt) {
         Ok(()) => Ok(ExitCode::SUCCESS),
+        Err(reason) if is_unread(reason) => Ok(ExitCode::SUCCESS),
         Err(reason) => {
             let failure = Failure::CannotWrite(reason);
             Ok(tell_reason(rt, &failure, STANDARD_OUTPUT, reason, asks_more(rt)))
         }
     }
+}
+
+// What clap says of a number that no type holds.
+const TOO_LARGE: &str = "number too large to fit in target type";
+
+// Why words are refused; of a number that is too large with the most that it may be.
+fn with_limit(alloc: Global, text: &str) -> Result<String, AllocError> {
+    let Some((before, after)) = text.split_once(TOO_LARGE) else {
+        return String::from_str(alloc, text);
+    };
+    let most = if before.contains("--seeds") {
+        u64::from(u32::MAX)
+    } else {
+        u64::MAX
+    };
+    format!(in alloc; "{before}the most is {most}{after}")
 }
 
 // Says why the program failed, and after that line the system's reason with the name of what it is of, if that is asked for.
@@ -106,12 +125,15 @@ fn tell_on<D, W>(
     input: &Source<'_, D>,
     out: &Output<W>,
 ) -> ExitCode {
-    let status = tell(rt, failure);
-    tell_note(rt, capture_note(rt.alloc(), failure, input));
     let is_of_write = matches!(
         failure,
         Failure::CannotWrite(_) | Failure::Audit(AuditFault::WriteFailed)
     );
+    if is_of_write && out.failed().is_some_and(is_unread) {
+        return ExitCode::SUCCESS;
+    }
+    let status = tell(rt, failure);
+    tell_note(rt, capture_note(rt.alloc(), failure, input));
     let note = match out.failed() {
         Some(error) if is_of_write && input.kept().is_some() => {
             reason_note(rt.alloc(), STANDARD_OUTPUT, error)

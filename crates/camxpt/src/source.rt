@@ -4,9 +4,16 @@ use crate::failure::Failure;
 use crate::front::Front;
 use clap::ArgMatches;
 use either::{Either, Left, Right};
+use std::alloc::Global;
 use std::fs::File;
 use std::io::{Read, StdinLock};
 use std::{env, io};
+use views::{CaptureFacts, facts_of};
+
+// How many comments may stand before a text, and how long one may be.
+const MAX_COMMENTS: usize = 256;
+
+const MAX_COMMENT_BYTES: usize = 1_048_576;
 
 /// A file, or standard input.
 pub type Device = Either<File, StdinLock<'static>>;
@@ -62,6 +69,10 @@ pub struct Source<'a, D> {
     /// The name of the file; `-` is standard input.
     pub name: &'a str,
     device: D,
+    // The first byte after the comments, until it is read.
+    first: Option<u8>,
+    // The first of the lines before the text that are comments.
+    comment: Vec<u8>,
     kept: Option<Vec<u8>>,
     front: Front,
     failed: Option<io::Error>,
@@ -82,13 +93,87 @@ impl<D> Source<'_, D> {
     pub fn failed(&self) -> Option<io::Error> {
         self.failed
     }
+
+    /// What is known of how the recording's capture was read, if it says so.
+    pub fn facts(&self, alloc: Global) -> Option<CaptureFacts> {
+        facts_of(alloc, &self.comment)
+    }
+}
+
+impl<D: Read> Source<'_, D> {
+    // Reads the lines before the text that begin with `#`, and keeps the first one. A line feed for each stands in what is kept, so
+    // that lines are counted as the file has them.
+    fn take_comments(&mut self) {
+        for number in 0..MAX_COMMENTS {
+            let Some(byte) = self.next_byte() else {
+                return;
+            };
+            if byte != b'#' {
+                self.first = Some(byte);
+                return;
+            }
+            self.take_comment(number == 0);
+        }
+    }
+
+    // Reads a comment to the end of its line.
+    fn take_comment(&mut self, is_first: bool) {
+        if let Some(kept) = &mut self.kept
+            && kept.push(b'\n').is_err()
+        {
+            self.kept = None;
+        }
+        if is_first && self.comment.push(b'#').is_err() {
+            return;
+        }
+        for _ in 0..MAX_COMMENT_BYTES {
+            match self.next_byte() {
+                None | Some(b'\n') => return,
+                Some(byte) => {
+                    if is_first && self.comment.push(byte).is_err() {
+                        return;
+                    }
+                }
+            }
+        }
+    }
+
+    // The next byte. None at the end, or if it can't be read.
+    fn next_byte(&mut self) -> Option<u8> {
+        let mut byte = [0u8; 1];
+        match self.device.read(&mut byte) {
+            Ok(1) => Some(byte[0]),
+            Ok(_) => None,
+            Err(error) => {
+                self.failed = Some(error);
+                None
+            }
+        }
+    }
+
+    // Keeps what was read.
+    fn keep(&mut self, bytes: &[u8]) {
+        self.front.keep(bytes);
+        if let Some(kept) = &mut self.kept {
+            // Without memory for them nothing is kept any more.
+            if kept.extend_from_slice(bytes).is_err() {
+                self.kept = None;
+            }
+        }
+    }
 }
 
 impl<D: Read> Read for Source<'_, D> {
-    ghost remaining = { λ s. D.remaining s.device };
-
-    /// Reads as the file does.
+    /// Reads as the file does, after its comments.
     fn read(&mut self, buf: &mut [u8]) -> io::Result<usize> {
+        if let Some(first) = self.first
+            && !buf.is_empty()
+        {
+            buf[0] = first;
+            self.first = None;
+            self.keep(&buf[..1]);
+            return Ok(1);
+        }
         let count = match self.device.read(buf) {
             Ok(count) => count,
             Err(error) => {
@@ -96,13 +181,7 @@ impl<D: Read> Read for Source<'_, D> {
                 return Err(error);
             }
         };
-        self.front.keep(&buf[..count]);
-        if let Some(kept) = &mut self.kept {
-            // Without memory for them nothing is kept any more.
-            if kept.extend_from_slice(&buf[..count]).is_err() {
-                self.kept = None;
-            }
-        }
+        self.keep(&buf[..count]);
         Ok(count)
     }
 }
@@ -132,13 +211,27 @@ pub fn open<'a>(
             Err(error) => return Err(Failure::CannotOpen(argument, error)),
         }
     };
-    Ok(Source {
+    Ok(with_comments_read(rt.alloc(), name, device, is_verbose(rt, words)))
+}
+
+// A text whose comments were read.
+fn with_comments_read<D: Read>(
+    alloc: Global,
+    name: &str,
+    device: D,
+    is_kept: bool,
+) -> Source<'_, D> {
+    let mut source = Source {
         name,
         device,
-        kept: is_verbose(rt, words).then_some(Vec::new(rt.alloc())),
+        first: None,
+        comment: Vec::new(alloc),
+        kept: is_kept.then_some(Vec::new(alloc)),
         front: Front::new(),
         failed: None,
-    })
+    };
+    source.take_comments();
+    source
 }
 
 /// Two files that are read one after the other.
@@ -174,11 +267,5 @@ pub fn open_both<'a>(
 
 /// Standard input, which is kept if the environment asks for more on a fault.
 pub fn input(rt: &HostRuntime) -> Source<'static, StdinLock<'static>> {
-    Source {
-        name: STANDARD_INPUT,
-        device: rt.reader(),
-        kept: asks_more(rt).then_some(Vec::new(rt.alloc())),
-        front: Front::new(),
-        failed: None,
-    }
+    with_comments_read(rt.alloc(), STANDARD_INPUT, rt.reader(), asks_more(rt))
 }

@@ -95,7 +95,7 @@ const DRIVER_BY: NamedArgument = Text(
 const DEVICE: NamedArgument = Texts(
     "device",
     "PICK",
-    "A device to take, or PATTERN=NAME for all that match, as one; * stands for any characters; all if it is left out",
+    "A device to take, as 8,0, 8:0, sda or /dev/sda, or PATTERN=NAME for all that match, as one; * stands for any characters; all if it is left out",
 );
 
 const HOST: NamedArgument = Texts(
@@ -113,7 +113,7 @@ const RATED: NamedArgument = Texts(
 const DEPTH: NamedArgument = Texts(
     "depth",
     "NAME=SLOTS",
-    "How many requests a device can have in flight; as many as it had at most if it is left out",
+    "How many requests a device can have in flight; as many as it had at most if it is left out. With fewer those end early that have no slot",
 );
 
 const FROM_TIME: NamedArgument = Text(
@@ -461,7 +461,7 @@ fn last() -> &'static [Subcommand] {
 /// The words that the program takes.
 pub fn command<'a>(alloc: Global) -> Result<Command<'a>, AllocError> {
     let mut command = Command::new(alloc, "camxpt")
-        .version("0.6.5")
+        .version("0.6.6")
         .about(
             "Audits traces of a CAM transport and recordings of any scheduler, and runs scripts that record traces. With no arguments it prints the summary of the audit of the trace or recording on standard input.",
         )

@@ -68,6 +68,7 @@ impl TraceRun<'_> {
         out: &mut Output<W>,
     ) -> Result<(), Failure> {
         let (alloc, name) = (rt.alloc(), trace.name);
+        let facts = trace.facts(alloc);
         let mut trace = Watched::new(CountedReader::new(trace, line));
         let mut counted = Watched::new(CountedWriter::new(&mut *out, line));
         let text = match self {
@@ -101,7 +102,14 @@ impl TraceRun<'_> {
             TraceRun::Explain(view) => {
                 let (net, explanation) = explanation_of(threads, alloc, line, &mut trace)?;
                 let made = by_weight(alloc, &net)?;
-                view.text(alloc, name, &net, &explanation, made.as_ref())?
+                view.text(
+                    alloc,
+                    name,
+                    &net,
+                    &explanation,
+                    made.as_ref(),
+                    facts.as_ref(),
+                )?
             }
             TraceRun::WhatIf(run) => {
                 let (net, explanation) = explanation_of(threads, alloc, line, &mut trace)?;

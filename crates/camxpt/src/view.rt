@@ -10,7 +10,7 @@ use drawing::{draw, timeline_json};
 use recording_file::{Name, NameKind};
 use round_net::Net;
 use std::alloc::{AllocError, Global};
-use views::{explain_json, page};
+use views::{CaptureFacts, explain_json, page};
 use wait_causes::Explanation;
 use wording::{ByWeight, Page, push_span};
 
@@ -51,7 +51,7 @@ pub enum View<'a> {
 
 impl View<'_> {
     /// What is printed of the trace or recording of this name, beside the schedule of the order by weight, if all are sent in time by
-    /// it. It is refused to draw rounds that there aren't.
+    /// it, and what is known of how its capture was read. It is refused to draw rounds that there aren't.
     pub fn text(
         self,
         alloc: Global,
@@ -59,6 +59,7 @@ impl View<'_> {
         net: &Net,
         explanation: &Explanation,
         by_weight: Option<&ByWeight>,
+        facts: Option<&CaptureFacts>,
     ) -> Result<String, Failure> {
         Ok(match self {
             View::Page {
@@ -77,6 +78,7 @@ impl View<'_> {
                     has_times,
                     has_blame,
                     by_weight,
+                    facts,
                 )?
             }
             View::Json {
@@ -85,7 +87,16 @@ impl View<'_> {
                 has_blame,
             } => {
                 let limited = limited(alloc, limits, explanation)?;
-                closed(explain_json(alloc, name, net, explanation, &limited, waits, has_blame))?
+                closed(explain_json(
+                    alloc,
+                    name,
+                    net,
+                    explanation,
+                    &limited,
+                    waits,
+                    has_blame,
+                    facts,
+                ))?
             }
             View::Drawing { rounds } => {
                 if let Some((_, last)) = rounds

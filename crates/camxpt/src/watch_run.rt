@@ -3,11 +3,13 @@
 use crate::import_fault::{FileOption, ImportFault};
 use crate::import_options::ImportOptions;
 use crate::import_run::{Files, tell_fault};
+use crate::import_warnings::tell_refused;
 use crate::import_words::{tolerance_of, window_of};
 use crate::output::{Output, print, standard_output};
 use crate::window_files::{file_name, write_text, write_whole};
 use crate::window_reader::WindowSink;
 use crate::word_fault::WordFault;
+use capture::CaptureFault;
 use capture_file::{Counts, Refused, Tolerance};
 use clap::ArgMatches;
 use cost_plan::plan;
@@ -30,7 +32,12 @@ pub fn watch(rt: &HostRuntime, words: &ArgMatches<'_>) -> ExitCode {
     let mut refused = Refused::new(rt.alloc(), tolerance.unwrap_or(Tolerance::Lenient));
     match tolerance.and_then(|_| watched(rt, words, &mut refused)) {
         Ok(()) => ExitCode::SUCCESS,
-        Err(fault) => tell_fault(rt, words, &fault, refused.text()),
+        Err(fault) => {
+            if let ImportFault::Capture(CaptureFault::NothingStarted) = fault {
+                tell_refused(rt, words, &refused);
+            }
+            tell_fault(rt, words, &fault, refused.text())
+        }
     }
 }
 
@@ -39,7 +46,7 @@ fn watched(
     words: &ArgMatches<'_>,
     refused: &mut Refused,
 ) -> Result<(), ImportFault> {
-    let mut options = ImportOptions::of(rt.alloc(), words)?;
+    let mut options = ImportOptions::of(rt, words)?;
     options.taken.is_sorted = !words.get_flag("unsorted");
     let window = window_of(words)?.unwrap_or(USUAL_WINDOW);
     let files = Files { rt, words };

@@ -37,8 +37,10 @@ impl fmt::Display for WordFault {
             WordFault::OneInput => "only one FILE can be standard input",
             WordFault::Unit => "--unit takes ns, us, ms or s",
             WordFault::From => "--from takes blkparse, tracepoints, biosnoop, fio or csv",
-            WordFault::Round => "--round takes a number from 1 on and ns, us, ms or s, as 10ms",
-            WordFault::Window => "--window takes a number from 1 on and ns, us, ms or s, as 10s",
+            WordFault::Round =>
+                "--round takes a number from 1 to 4294967295 and ns, us, ms or s, as 10ms",
+            WordFault::Window =>
+                "--window takes a number from 1 to 4294967295 and ns, us, ms or s, as 10s",
             WordFault::Priority => "--priority takes by-class, by-direction or flat",
             WordFault::DriverBy => "--driver-by takes comm, pid or cgroup",
             WordFault::Cgroup => {
@@ -50,7 +52,7 @@ impl fmt::Display for WordFault {
                 "--host takes DEVICE=ADAPTER:OPENINGS, an adapter from 0 to 7 and 1 to 255 openings",
             WordFault::HostTwice => "--host names a device twice",
             WordFault::Adapter => "--host gives an adapter two numbers of openings",
-            WordFault::Time => "--from-time and --to-time take seconds, as 1.5",
+            WordFault::Time => "--from-time and --to-time take seconds below 18446744073, as 1.5",
             WordFault::Driver => "--driver takes NAME=PRIORITY, a priority from 0 to 1279",
             WordFault::DriverTwice => "--driver names a driver twice",
             WordFault::Rated => "--rated takes DEVICE=OPENINGS, 1 to 255",

@@ -3,7 +3,7 @@ use Rattle.std.proofs.Common.{◌≡◌, ℕ, ◌<◌, ◌≤◌, ◌==◌, Bool
 use Rattle.std.specs.List.{AllByRecursion, filter, find}
 use Rattle.std.proofs.lemmas.Bool.Decides.{nat_tests}
 use Rattle.capture_file.specs.Attempts.{Attempt, IsRising, with_id, earlier, first_started}
-use Rattle.capture_file.specs.Spots.{earlier_of, comes_first}
+use Rattle.capture_file.specs.Spots.{comes_first}
 use Rattle.capture_file.specs.States.{start_of}
 use Rattle.capture_file.proofs.KeyLemmas.{cases}
 
@@ -45,13 +45,13 @@ pub record UpTo (a b : Attempt) : Type 0 where
   pub start : start_of a.state ≤ start_of b.state
   pub id : start_of a.state ≡ start_of b.state → a.id ≤ b.id
 
-trans : (a b c : Attempt) → UpTo a b → UpTo b c → UpTo a c
+pub trans : (a b c : Attempt) → UpTo a b → UpTo b c → UpTo a c
 trans a b c h k = record {
   start = omega (arith, h.start, k.start);
   id = λ e. omega (arith, h.start, k.start, h.id, k.id);
 }
 
-itself : (a : Attempt) → UpTo a a
+pub itself : (a : Attempt) → UpTo a a
 itself a = record { start = omega arith; id = λ e. omega arith }
 
 -- none of those that pass a test, or the first of them
@@ -102,57 +102,39 @@ one_first p all (Some a) (Some b) h k =
     let same : a.id ≡ b.id = omega (arith, one.start, other.start, one.id, other.id) in
     sym h.0 ∙ ap (λ id. with_id id all) same ∙ k.0
 
-passes_first : (b c : Bool) → b ≡ true → (b || c) ≡ true
+pub passes_first : (b c : Bool) → b ≡ true → (b || c) ≡ true
 passes_first true c t = refl
 passes_first false c t = no_both false t refl
 
-passes_second : (b c : Bool) → c ≡ true → (b || c) ≡ true
+pub passes_second : (b c : Bool) → c ≡ true → (b || c) ≡ true
 passes_second true c t = refl
 passes_second false c t = t
 
-fails_first : (b c : Bool) → b ≡ false → (b || c) ≡ true → c ≡ true
+pub fails_first : (b c : Bool) → b ≡ false → (b || c) ≡ true → c ≡ true
 fails_first true c f t = no_both true refl f
 fails_first false c f t = t
 
-fails_both : (b c : Bool) → b ≡ false → c ≡ false → (b || c) ≡ false
+pub fails_both : (b c : Bool) → b ≡ false → c ≡ false → (b || c) ≡ false
 fails_both true c f g = f
 fails_both false c f g = g
 
-or_first : (b c : Bool) → c ≡ false → (b || c) ≡ true → b ≡ true
+pub or_first : (b c : Bool) → c ≡ false → (b || c) ≡ true → b ≡ true
 or_first true c f t = refl
 or_first false c f t = no_both c t f
 
-or_else : {G : Type 0} (b c : Bool) → (b || c) ≡ true → (b ≡ true → G) → (c ≡ true → G) → G
+pub or_else : {G : Type 0} (b c : Bool) → (b || c) ≡ true → (b ≡ true → G) → (c ≡ true → G) → G
 or_else true c t f g = f refl
 or_else false c t f g = g t
 
-before : (a b : Attempt) → comes_first a b ≡ true → UpTo a b
+pub before : (a b : Attempt) → comes_first a b ≡ true → UpTo a b
 before a b t = record { start = grind (arith, nat_tests); id = λ e. grind (arith, nat_tests) }
 
-not_before : (a b : Attempt) → comes_first a b ≡ false → UpTo b a
+pub not_before : (a b : Attempt) → comes_first a b ≡ false → UpTo b a
 not_before a b f = record { start = grind (arith, nat_tests); id = λ e. grind (arith, nat_tests) }
 
 at_0 : (a : Attempt) (r : Option Attempt) → start_of a.state ≡ 0 → earlier a r ≡ a
 at_0 a None e = refl
 at_0 a (Some b) e = let f : nat_lt (start_of b.state) (start_of a.state) ≡ false = grind (arith, nat_tests) in rw f refl
-
--- the first of all that pass either test
-pub first_of_both : (p q : Attempt → Bool) (all : List Attempt) (r s : Option Attempt) → IsFirst p all r → IsFirst q all s → IsFirst (λ a. p a || q a) all (earlier_of r s)
-first_of_both p q all None None h k = both_all all (λ a f g. fails_both (p a) (q a) f g) h k
-first_of_both p q all None (Some b) h k =
-    (k.0, passes_second (p b) (q b) k.1, both_all all (λ a f up t. up (fails_first (p a) (q a) f t)) h k.2)
-first_of_both p q all (Some a) None h k =
-    (h.0, passes_first (p a) (q a) h.1, both_all all (λ b up g t. up (or_first (p b) (q b) g t)) h.2 k)
-first_of_both p q all (Some a) (Some b) h k =
-    cases (comes_first b a)
-    (λ t. let first : UpTo b a = before b a t in
-    let e : earlier_of (Some a) (Some b) ≡ Some b = rw t refl in
-    subst (IsFirst (λ c. p c || q c) all) (sym e)
-    (k.0, passes_second (p b) (q b) k.1, both_all all (λ c up up' t'. or_else (p c) (q c) t' (λ x. trans b a c first (up x)) up') h.2 k.2))
-    (λ f. let first : UpTo a b = not_before b a f in
-    let e : earlier_of (Some a) (Some b) ≡ Some a = rw f refl in
-    subst (IsFirst (λ c. p c || q c) all) (sym e)
-    (h.0, passes_first (p a) (q a) h.1, both_all all (λ c up up' t'. or_else (p c) (q c) t' up (λ x. trans a b c first (up' x))) h.2 k.2))
 
 -- the first one in the list is the first, if none of them was started
 pub find-first : (p q : Attempt → Bool) (all : List Attempt) → ((a : Attempt) → p a ≡ q a) → ((a : Attempt) → q a ≡ true → start_of a.state ≡ 0) → find p all ≡ first_started (filter q all)

@@ -1,5 +1,5 @@
 -- what is known of requests
-use Rattle.std.proofs.Common.{◌≡◌, ℕ, ◌+◌, ◌<◌, ◌==◌, true, false, cond, List, [], ◌∷◌, ◌++◌, Some, None, Option, refl, sym, ap, ◌∙◌, subst, arith}
+use Rattle.std.proofs.Common.{◌≡◌, ℕ, ◌+◌, ◌<◌, ◌==◌, true, false, cond, List, [], ◌∷◌, ◌++◌, Some, None, Option, is_some, refl, sym, ap, ◌∙◌, subst, arith}
 use Rattle.std.proofs.lemmas.Bool.Decides.{nat_tests}
 use Rattle.capture_file.specs.declared.attempt.Arrival.{Arrival}
 use Rattle.capture_file.specs.declared.attempt.Place.{Place}
@@ -40,7 +40,9 @@ put_push (c ∷ rest) a b f = ap (λ bs. cond (c.id == a.id) a c ∷ bs) (put_pu
 
 pub next_found : (k : Known) (a : Attempt) (place : Place) (time : ℕ) (arrival : Option Arrival) → with_id a.id k.attempts ≡ Some a → with_id a.id (with_next place time arrival k).attempts ≡ Some a
 next_found k a place time None h = h
-next_found k a place time (Some before) h = found_push k.attempts a _ a.id h
+next_found k a place time (Some before) h = cases (is_some place.sector)
+    (λ t. rw t (found_push k.attempts a _ a.id h))
+    (λ f. rw f h)
 
 pub next_put : (k : Known) (a b : Attempt) (place : Place) (time : ℕ) (arrival : Option Arrival) → AreBelow k.next k.attempts → with_id b.id k.attempts ≡ Some b → a.id ≡ b.id
     → record (with_next place time arrival k) { attempts = put a (with_next place time arrival k).attempts } ≡ with_next place time arrival (record k { attempts = put a k.attempts })
@@ -48,4 +50,6 @@ next_put k a b place time None below at same = refl
 next_put k a b place time (Some before) below at same =
     let low : b.id < k.next = all_at (λ (c : Attempt). c.id < k.next) k.attempts b.id b at below in
     let f : (k.next == a.id) ≡ false = grind (arith, nat_tests) in
-    ap (λ (bs : List Attempt). record k { next = k.next + 1; attempts = bs }) (put_push k.attempts a _ f)
+    cases (is_some place.sector)
+    (λ t. rw t (ap (λ (bs : List Attempt). record k { next = k.next + 1; attempts = bs }) (put_push k.attempts a _ f)))
+    (λ g. rw g refl)

@@ -4,16 +4,18 @@ use Rattle.std.specs.Option.{IsSomeAnd}
 use Rattle.std.proofs.lemmas.Bool.Decides.{nat_tests}
 use Rattle.capture_file.specs.declared.attempt.Arrival as arrival
 use Rattle.capture_file.specs.declared.attempt.Place.{Place}
+use Rattle.capture_file.specs.declared.attempt.Sent.{Sent}
 use Rattle.capture_file.specs.declared.attempt.State.TheVariants as state
 use Rattle.capture_file.specs.declared.attempt.Tag.{Tag}
 use Rattle.capture_file.specs.States.{State, start_of, is_waiting}
-use Rattle.capture_file.specs.Attempts.{Attempt, ids, IsRising, with_id, put, without, is_same_place, waits_at, is_in_flight_at, first_waiting, first_in_flight, first_early}
-use Rattle.capture_file.specs.Events.{Known, added, add, started_before, seen, arrived, without_it, waiting_behind, moved, with_front, in_flight_since, with_start, with_next, put_back_at, with_put_back, completed_at, with_completion}
-use Rattle.capture_file.specs.Laws.{Event, Arrival, MergeBack, MergeFront, Start, PutBack, Completion, after, gone, new_ids, IsStartKept, IsArrivalKept}
+use Rattle.capture_file.specs.Attempts.{Attempt, ids, IsRising, with_id, put, without, is_same_place, waits_at, is_in_flight_at, fits_at, first_waiting, newest_at, first_early}
+use Rattle.capture_file.specs.Events.{Known, nothing, added, add, issued, started_before, seen, arrived, without_it, waiting_behind, moved, with_front, in_flight_since, with_start, with_next, put_back_at, with_put_back, completed_at, with_completion}
+use Rattle.capture_file.specs.Laws.{Event, Arrival, MergeBack, MergeFront, Start, Issue, PutBack, Completion, after, gone, new_ids, IsStartKept, IsArrivalKept}
 use Rattle.capture_file.proofs.KeyLemmas.{cases}
-use Rattle.capture_file.proofs.FirstLemmas.{all_at, no_both, IsFirst, first_is, UpTo}
+use Rattle.capture_file.proofs.FirstLemmas.{all_at, no_both, IsFirst, UpTo}
+use Rattle.capture_file.proofs.LastLemmas.{IsLast, last_is}
 use Rattle.capture_file.proofs.KnownLemmas.{found_push}
-use Rattle.capture_file.proofs.PlaceLemmas.{waits_from_0, waits_first, waiting_at, waiting_passes, in_flight_at, early_at, early_passes}
+use Rattle.capture_file.proofs.PlaceLemmas.{waits_from_0, waits_first, waiting_at, waiting_passes, newest_found, early_found, early_passes}
 use Rattle.capture_file.proofs.TableLemmas.{put_here, put_other, without_here, without_other}
 
 append_nil : (ns : List ℕ) → ns ++ [] ≡ ns
@@ -33,16 +35,16 @@ pub longest_waits : (place : Place) (all : List Attempt) → IsRising all → (a
     → IsSomeAnd (first_waiting place all) (λ (first : Attempt). (waits_at place first ≡ true) × (first.id ≤ a.id))
 longest_waits place all rising = waiting_from place all (first_waiting place all) (waits_first place all rising)
 
-flight_from : (place : Place) (all : List Attempt) (r : Option Attempt) → IsFirst (is_in_flight_at place) all r → (a : Attempt) → with_id a.id all ≡ Some a → is_in_flight_at place a ≡ true
-    → IsSomeAnd r (λ (first : Attempt). (is_in_flight_at place first ≡ true) × (start_of first.state ≤ start_of a.state))
-flight_from place all None h a at t = no_both (is_in_flight_at place a) t (all_at (λ b. is_in_flight_at place b ≡ false) all a.id a at h)
-flight_from place all (Some b) h a at t =
-    let up : UpTo b a = all_at (λ c. is_in_flight_at place c ≡ true → UpTo b c) all a.id a at h.2 t in
+newest_from : (place : Place) (sent : Sent) (all : List Attempt) (r : Option Attempt) → IsLast (fits_at place sent) all r → (a : Attempt) → with_id a.id all ≡ Some a → fits_at place sent a ≡ true
+    → IsSomeAnd r (λ (last : Attempt). (fits_at place sent last ≡ true) × (start_of a.state ≤ start_of last.state))
+newest_from place sent all None h a at t = no_both (fits_at place sent a) t (all_at (λ b. fits_at place sent b ≡ false) all a.id a at h)
+newest_from place sent all (Some b) h a at t =
+    let up : UpTo a b = all_at (λ c. fits_at place sent c ≡ true → UpTo c b) all a.id a at h.2 t in
     (h.1, up.start)
 
-pub longest_flies : (place : Place) (all : List Attempt) → IsRising all → (a : Attempt) → with_id a.id all ≡ Some a → is_in_flight_at place a ≡ true
-    → IsSomeAnd (first_in_flight place all) (λ (first : Attempt). (is_in_flight_at place first ≡ true) × (start_of first.state ≤ start_of a.state))
-longest_flies place all rising = flight_from place all (first_in_flight place all) (first_is (is_in_flight_at place) all rising)
+pub newest_flies : (place : Place) (sent : Sent) (all : List Attempt) → IsRising all → (a : Attempt) → with_id a.id all ≡ Some a → fits_at place sent a ≡ true
+    → IsSomeAnd (newest_at place sent all) (λ (last : Attempt). (fits_at place sent last ≡ true) × (start_of a.state ≤ start_of last.state))
+newest_flies place sent all rising = newest_from place sent all (newest_at place sent all) (last_is (fits_at place sent) all rising)
 
 -- ---- ids
 
@@ -75,11 +77,11 @@ one_new next = let f : (next + 1 == next) ≡ false = grind (arith, nat_tests) i
 pushed : (next : ℕ) (ns ms : List ℕ) → ns ≡ ms → ns ++ next ∷ [] ≡ ms ++ new_ids next (next + 1)
 pushed next ns ms e = rw (e, one_new next) refl
 
-ids_added : (place : Place) (a : Option arrival.Arrival) (s : State) (k : Known) → ids (add place a s k).attempts ≡ ids k.attempts ++ new_ids k.next (k.next + 1)
-ids_added place a s k = ids-push k.attempts (added place a s k) ∙ pushed k.next (ids k.attempts) (ids k.attempts) refl
+ids_added : (place : Place) (sent : Sent) (a : Option arrival.Arrival) (s : State) (k : Known) → ids (add place sent a s k).attempts ≡ ids k.attempts ++ new_ids k.next (k.next + 1)
+ids_added place sent a s k = ids-push k.attempts (added place sent a s k) ∙ pushed k.next (ids k.attempts) (ids k.attempts) refl
 
 ids_arrived : (place : Place) (time : ℕ) (tag : Tag) (k : Known) (r : Option Attempt) → ids (arrived place time tag k r).attempts ≡ ids k.attempts ++ new_ids k.next (arrived place time tag k r).next
-ids_arrived place time tag k None = ids_added place (Some (record { time = time; tag = tag })) state.Waiting k
+ids_arrived place time tag k None = ids_added place nothing (Some (record { time = time; tag = tag })) state.Waiting k
 ids_arrived place time tag k (Some a) = no_new k.next (ids (put (seen tag a) k.attempts)) (ids k.attempts) (ids-put (seen tag a) k.attempts)
 
 ids_without : (k : Known) (r : Option Attempt) → ids (without_it k r).attempts ≡ ids (without_it k r).attempts ++ new_ids k.next (without_it k r).next
@@ -95,15 +97,15 @@ ids_front place k (Some a) (Some m) e =
     subst (λ w. ids (without_it (record k { attempts = put (moved place a) k.attempts }) w).attempts ≡ ids (without m.id k.attempts) ++ new_ids k.next (without_it (record k { attempts = put (moved place a) k.attempts }) w).next) e
     (no_new k.next (ids (without m.id (put (moved place a) k.attempts))) (ids (without m.id k.attempts)) (ids-without_put m.id (moved place a) k.attempts))
 
-ids_start : (place : Place) (time : ℕ) (k : Known) (r : Option Attempt) → ids (with_start place time k r).attempts ≡ ids k.attempts ++ new_ids k.next (with_start place time k r).next
-ids_start place time k None = cases (is_some place.sector)
-    (λ t. rw t (ids_added place None (state.InFlight time) k))
-    (λ f. rw f (no_new k.next (ids k.attempts) (ids k.attempts) refl))
-ids_start place time k (Some a) = no_new k.next (ids (put (in_flight_since time a) k.attempts)) (ids k.attempts) (ids-put (in_flight_since time a) k.attempts)
+ids_start : (place : Place) (sent : Sent) (time : ℕ) (k : Known) (r : Option Attempt) → ids (with_start place sent time k r).attempts ≡ ids k.attempts ++ new_ids k.next (with_start place sent time k r).next
+ids_start place sent time k None = ids_added place sent None (state.InFlight time) k
+ids_start place sent time k (Some a) = no_new k.next (ids (put (in_flight_since sent time a) k.attempts)) (ids k.attempts) (ids-put (in_flight_since sent time a) k.attempts)
 
 ids_next : (place : Place) (time : ℕ) (a : Option arrival.Arrival) (k : Known) (ns : List ℕ) → ids k.attempts ≡ ns → ids (with_next place time a k).attempts ≡ ns ++ new_ids k.next (with_next place time a k).next
 ids_next place time None k ns e = no_new k.next (ids k.attempts) ns e
-ids_next place time (Some before) k ns e = ids-push k.attempts (added place (Some (record { time = time; tag = before.tag })) state.Waiting k) ∙ pushed k.next (ids k.attempts) ns e
+ids_next place time (Some before) k ns e = cases (is_some place.sector)
+    (λ t. rw t (ids-push k.attempts (added place nothing (Some (record { time = time; tag = before.tag })) state.Waiting k) ∙ pushed k.next (ids k.attempts) ns e))
+    (λ f. rw f (no_new k.next (ids k.attempts) ns e))
 
 ids_put_back : (time : ℕ) (k : Known) (r : Option Attempt) → ids (with_put_back time k r).attempts ≡ ids k.attempts ++ new_ids k.next (with_put_back time k r).next
 ids_put_back time k None = no_new k.next (ids k.attempts) (ids k.attempts) refl
@@ -117,9 +119,10 @@ pub ids_after : (event : Event) (k : Known) → ids (after event k).attempts ≡
 ids_after (Arrival place time tag) k = ids_arrived place time tag k (started_before place time k)
 ids_after (MergeBack place) k = ids_without k (first_waiting place k.attempts)
 ids_after (MergeFront place behind) k = ids_front place k (waiting_behind place behind k) (first_waiting place k.attempts) refl
-ids_after (Start place time) k = ids_start place time k (first_waiting place k.attempts)
-ids_after (PutBack place time) k = ids_put_back time k (first_in_flight place k.attempts)
-ids_after (Completion place time) k = ids_completion place time k (first_in_flight place k.attempts)
+ids_after (Start place sent time) k = ids_start place sent time k (first_waiting place k.attempts)
+ids_after (Issue place sent time tag) k = ids_added place sent (Some (record { time = time; tag = tag })) (state.InFlight time) k
+ids_after (PutBack place sent time) k = ids_put_back time k (newest_at place sent k.attempts)
+ids_after (Completion place sent time) k = ids_completion place time k (newest_at place sent k.attempts)
 
 -- ---- what an event may make of an attempt
 
@@ -177,7 +180,7 @@ not_early x l None t = refl
 not_early true l (Some a) t = no_both false t refl
 not_early false l (Some a) t = no_both false t refl
 
-waits : (s : State) (x : Bool) → (is_waiting s && x) ≡ true → is_waiting s ≡ true
+pub waits : (s : State) (x : Bool) → (is_waiting s && x) ≡ true → is_waiting s ≡ true
 waits state.Waiting x t = refl
 waits (state.InFlight start) x t = no_both false t refl
 waits (state.Completed start end) x t = no_both false t refl
@@ -189,8 +192,8 @@ keeps_seen tag a e = record { start = λ f. (f, refl); arrival = inr (e, refl) }
 keeps_moved : (place : Place) (a : Attempt) → Keeps a (moved place a)
 keeps_moved place a = record { start = λ f. (f, refl); arrival = inl refl }
 
-keeps_started : (time : ℕ) (a : Attempt) → is_waiting a.state ≡ true → Keeps a (in_flight_since time a)
-keeps_started time a t = record { start = λ f. no_both (is_waiting a.state) t f; arrival = inl refl }
+keeps_started : (sent : Sent) (time : ℕ) (a : Attempt) → is_waiting a.state ≡ true → Keeps a (in_flight_since sent time a)
+keeps_started sent time a t = record { start = λ f. no_both (is_waiting a.state) t f; arrival = inl refl }
 
 keeps_put_back : (time : ℕ) (a : Attempt) → Keeps a (put_back_at time a)
 keeps_put_back time a = record { start = λ f. (refl, refl); arrival = inl refl }
@@ -199,12 +202,12 @@ keeps_completed : (time : ℕ) (a : Attempt) → Keeps a (completed_at time a)
 keeps_completed time a = record { start = λ f. (refl, refl); arrival = inl refl }
 
 kept_arrived : (place : Place) (time : ℕ) (tag : Tag) (k : Known) (r : Option Attempt) → IsRising k.attempts → r ≡ started_before place time k → AreKept k.attempts (arrived place time tag k r).attempts
-kept_arrived place time tag k None rising e = kept_push k.attempts (added place (Some (record { time = time; tag = tag })) state.Waiting k)
+kept_arrived place time tag k None rising e = kept_push k.attempts (added place nothing (Some (record { time = time; tag = tag })) state.Waiting k)
 kept_arrived place time tag k (Some a) rising e = cases (k.skew == 0)
     (λ t. absurd (let none : Some a ≡ None = e ∙ rw t refl in cc))
     (λ f. let e' : Some a ≡ first_early place (time - k.skew) k.attempts = e ∙ rw f refl in
     let passes = early_passes place (time - k.skew) k.attempts (Some a) rising e' in
-    kept_put k.attempts (seen tag a) a (early_at place (time - k.skew) k.attempts (Some a) rising e')
+    kept_put k.attempts (seen tag a) a (early_found place (time - k.skew) k.attempts (Some a) rising e')
     (keeps_seen tag a (not_early (is_in_flight_at place a) (nat_le (time - k.skew) (start_of a.state)) a.arrival passes)))
 
 kept_gone : (k : Known) (r : Option Attempt) → AreKept k.attempts (without_it k r).attempts
@@ -228,33 +231,34 @@ kept_front place behind k (Some a) rising e =
     kept_joined k.attempts (put (moved place a) k.attempts) (record k { attempts = put (moved place a) k.attempts }) (first_waiting place k.attempts) refl
     (kept_put k.attempts (moved place a) a (behind_at place behind k a rising e) (keeps_moved place a))
 
-kept_start : (place : Place) (time : ℕ) (k : Known) (r : Option Attempt) → IsRising k.attempts → r ≡ first_waiting place k.attempts → AreKept k.attempts (with_start place time k r).attempts
-kept_start place time k None rising e = cases (is_some place.sector)
-    (λ t. rw t (kept_push k.attempts (added place None (state.InFlight time) k)))
-    (λ f. rw f (kept_all k.attempts))
-kept_start place time k (Some a) rising e =
-    kept_put k.attempts (in_flight_since time a) a (waiting_at place k.attempts (Some a) rising e)
-    (keeps_started time a (waits a.state (is_same_place a.place place) (waiting_passes place k.attempts (Some a) rising e)))
+kept_start : (place : Place) (sent : Sent) (time : ℕ) (k : Known) (r : Option Attempt) → IsRising k.attempts → r ≡ first_waiting place k.attempts → AreKept k.attempts (with_start place sent time k r).attempts
+kept_start place sent time k None rising e = kept_push k.attempts (added place sent None (state.InFlight time) k)
+kept_start place sent time k (Some a) rising e =
+    kept_put k.attempts (in_flight_since sent time a) a (waiting_at place k.attempts (Some a) rising e)
+    (keeps_started sent time a (waits a.state (is_same_place a.place place) (waiting_passes place k.attempts (Some a) rising e)))
 
 kept_next : (time : ℕ) (k : Known) (a : Attempt) (before : Option arrival.Arrival) → with_id a.id k.attempts ≡ Some a → AreKept k.attempts (with_next a.place time before (record k { attempts = put (put_back_at time a) k.attempts })).attempts
 kept_next time k a None at = kept_put k.attempts (put_back_at time a) a at (keeps_put_back time a)
-kept_next time k a (Some before) at = kept_put_push k.attempts (put_back_at time a) a _ at (keeps_put_back time a)
+kept_next time k a (Some before) at = cases (is_some a.place.sector)
+    (λ t. rw t (kept_put_push k.attempts (put_back_at time a) a _ at (keeps_put_back time a)))
+    (λ f. rw f (kept_put k.attempts (put_back_at time a) a at (keeps_put_back time a)))
 
-kept_put_back : (place : Place) (time : ℕ) (k : Known) (r : Option Attempt) → IsRising k.attempts → r ≡ first_in_flight place k.attempts → AreKept k.attempts (with_put_back time k r).attempts
-kept_put_back place time k None rising e = kept_all k.attempts
-kept_put_back place time k (Some a) rising e = kept_next time k a a.arrival (in_flight_at place k.attempts (Some a) rising e)
+kept_put_back : (place : Place) (sent : Sent) (time : ℕ) (k : Known) (r : Option Attempt) → IsRising k.attempts → r ≡ newest_at place sent k.attempts → AreKept k.attempts (with_put_back time k r).attempts
+kept_put_back place sent time k None rising e = kept_all k.attempts
+kept_put_back place sent time k (Some a) rising e = kept_next time k a a.arrival (newest_found place sent k.attempts (Some a) rising e)
 
-kept_completion : (place : Place) (time : ℕ) (k : Known) (r : Option Attempt) → IsRising k.attempts → r ≡ first_in_flight place k.attempts → AreKept k.attempts (with_completion place time k r).attempts
-kept_completion place time k None rising e = kept_gone k (first_waiting place k.attempts)
-kept_completion place time k (Some a) rising e = kept_put k.attempts (completed_at time a) a (in_flight_at place k.attempts (Some a) rising e) (keeps_completed time a)
+kept_completion : (place : Place) (sent : Sent) (time : ℕ) (k : Known) (r : Option Attempt) → IsRising k.attempts → r ≡ newest_at place sent k.attempts → AreKept k.attempts (with_completion place time k r).attempts
+kept_completion place sent time k None rising e = kept_gone k (first_waiting place k.attempts)
+kept_completion place sent time k (Some a) rising e = kept_put k.attempts (completed_at time a) a (newest_found place sent k.attempts (Some a) rising e) (keeps_completed time a)
 
 kept_after : (event : Event) (k : Known) → IsRising k.attempts → AreKept k.attempts (after event k).attempts
 kept_after (Arrival place time tag) k rising = kept_arrived place time tag k (started_before place time k) rising refl
 kept_after (MergeBack place) k rising = kept_gone k (first_waiting place k.attempts)
 kept_after (MergeFront place behind) k rising = kept_front place behind k (waiting_behind place behind k) rising refl
-kept_after (Start place time) k rising = kept_start place time k (first_waiting place k.attempts) rising refl
-kept_after (PutBack place time) k rising = kept_put_back place time k (first_in_flight place k.attempts) rising refl
-kept_after (Completion place time) k rising = kept_completion place time k (first_in_flight place k.attempts) rising refl
+kept_after (Start place sent time) k rising = kept_start place sent time k (first_waiting place k.attempts) rising refl
+kept_after (Issue place sent time tag) k rising = kept_push k.attempts (issued place sent time tag k)
+kept_after (PutBack place sent time) k rising = kept_put_back place sent time k (newest_at place sent k.attempts) rising refl
+kept_after (Completion place sent time) k rising = kept_completion place sent time k (newest_at place sent k.attempts) rising refl
 
 pub starts_kept : (event : Event) (k : Known) → IsRising k.attempts → (a b : Attempt) → with_id a.id k.attempts ≡ Some a → with_id a.id (after event k).attempts ≡ Some b → IsStartKept a b
 unfolding AreKept

@@ -1,23 +1,27 @@
 -- attempts, and the places of those that haven't ended
-use Rattle.std.proofs.Common.{◌≡◌, ℕ, ◌<◌, ◌≤◌, ◌==◌, Bool, true, false, not, ◌&&◌, ◌||◌, cond, List, [], ◌∷◌, ◌++◌, Some, None, Option, refl, sym, ap, ◌∙◌, subst, arith, nat_le}
+use Rattle.std.proofs.Common.{◌≡◌, ℕ, ◌<◌, ◌≤◌, ◌==◌, Bool, true, false, not, ◌&&◌, ◌||◌, cond, List, [], ◌∷◌, ◌++◌, Some, None, Option, is_some, refl, sym, ap, ◌∙◌, subst, arith, nat_le}
 use Rattle.std.specs.List.{AllByRecursion}
-use Rattle.std.specs.Ordering.{is_eq, is_gt}
+use Rattle.std.specs.Ordering.{is_eq, is_gt, is_lt, ordering_reverse}
+use Rattle.std.specs.declared.cmp.Ordering.TheVariants.{Less, Equal, Greater}
+use Rattle.std.specs.declared.cmp.Ordering.{Ordering}
 use Rattle.std.proofs.lemmas.Bool.Decides.{nat_tests}
 use Rattle.std.proofs.lemmas.Cmp.{tied_itself}
 use Rattle.capture_file.specs.declared.attempt.Arrival.{Arrival}
 use Rattle.capture_file.specs.declared.attempt.Place.{Place}
+use Rattle.capture_file.specs.declared.attempt.Sent.{Sent}
 use Rattle.capture_file.specs.declared.attempt.State.TheVariants.{Waiting, InFlight, Completed, PutBack}
 use Rattle.capture_file.specs.declared.attempt.Tag.{Tag}
 use Rattle.capture_file.specs.declared.spot.Queue.{Queue}
 use Rattle.capture_file.specs.declared.spot.Spot.{Spot}
-use Rattle.capture_file.specs.States.{State, start_of}
-use Rattle.capture_file.specs.Attempts.{Attempt, IsRising, with_id, put, without}
-use Rattle.capture_file.specs.Events.{tagged, with_tag}
-use Rattle.capture_file.specs.Spots.{queue_cmp, spot_cmp, queue_of, spot_in, spot_of, is_at_spot, AreApart, is_spot_in, first_at}
+use Rattle.capture_file.specs.States.{State, start_of, is_waiting, is_in_flight}
+use Rattle.capture_file.specs.Attempts.{Attempt, IsRising, with_id, put, without, is_same_place, is_early_at}
+use Rattle.capture_file.specs.Events.{tagged, with_tag, in_flight_since, seen}
+use Rattle.capture_file.specs.Spots.{queue_cmp, spot_cmp, queue_of, spot_in, spot_of, is_at_spot, AreApart, is_spot_in, first_at, last_at}
 use Rattle.capture_file.specs.Tables.{is_of, IsTied}
 use Rattle.capture_file.proofs.KeyLemmas.{cases}
-use Rattle.capture_file.proofs.OrderLemmas.{is_eq-Equal, queues_total, spots_total, exact_queue, exact_spot, spots_le, low, low_le, between, low_start}
+use Rattle.capture_file.proofs.OrderLemmas.{is_eq-Equal, queues_total, spots_total, exact_queue, exact_spot, spots_le, low, next_queue, low_le, before_next, within, between, low_start}
 use Rattle.capture_file.proofs.FirstLemmas.{id_at, here, all_from_ids, UpTo, no_both, first_is, one_first}
+use Rattle.capture_file.proofs.LastLemmas.{last_is, one_last}
 
 -- ---- where an attempt is
 
@@ -38,10 +42,10 @@ id_in start id None = refl
 id_in start id (Some queue) = refl
 
 start_at : (a : Attempt) (s : Spot) → spot_of a ≡ Some s → s.start ≡ start_of a.state
-start_at a s h = sym (ap (spot_start (start_of a.state)) h) ∙ start_in (start_of a.state) a.id (queue_of a.place a.arrival a.state)
+start_at a s h = sym (ap (spot_start (start_of a.state)) h) ∙ start_in (start_of a.state) a.id (queue_of a.place a.sent a.arrival a.state)
 
 number_at : (a : Attempt) (s : Spot) → spot_of a ≡ Some s → s.id ≡ a.id
-number_at a s h = sym (ap (spot_id a.id) h) ∙ id_in (start_of a.state) a.id (queue_of a.place a.arrival a.state)
+number_at a s h = sym (ap (spot_id a.id) h) ∙ id_in (start_of a.state) a.id (queue_of a.place a.sent a.arrival a.state)
 
 at_spot : (o : Option Spot) (s : Spot) → is_at_spot o s ≡ true → o ≡ Some s
 at_spot None s h = no_both false h refl
@@ -145,6 +149,51 @@ found_first all f queue from rising tied s ge least is same =
     one_first (is_in queue from) all (first_at queue from all) (Some b) (first_is (is_in queue from) all rising) (at, passes, all_from_ids all rising first)
     ∙ sym there.1
 
+-- ---- the last of a queue
+
+le_of_not_lt : (o p : Ordering) → o ≡ ordering_reverse p → is_lt o ≡ false → is_gt p ≡ false
+le_of_not_lt Less p e h = absurd (let h' : true ≡ false = h in cc)
+le_of_not_lt Equal Equal e h = refl
+le_of_not_lt Equal Less e h = absurd (let e' : Equal ≡ Greater = e in cc)
+le_of_not_lt Equal Greater e h = absurd (let e' : Equal ≡ Less = e in cc)
+le_of_not_lt Greater Less e h = refl
+le_of_not_lt Greater Equal e h = absurd (let e' : Greater ≡ Equal = e in cc)
+le_of_not_lt Greater Greater e h = absurd (let e' : Greater ≡ Less = e in cc)
+
+-- between the low end of a queue and that of the next
+abbrev pub InQueue : Queue → Spot → Type 0
+InQueue queue q = (is_gt (spot_cmp (low queue 0) q) ≡ false) × (spot_cmp q (low (next_queue queue) 0) ≡ Less)
+
+in_queue_range : (queue : Queue) (q : Spot) → q.queue ≡ queue → 0 ≤ q.start → InQueue queue q
+in_queue_range queue q e h = (low_le queue 0 q e h, before_next queue q e)
+
+pub none_last : (all : List Attempt) (f : Spot → Bool) (queue : Queue) → IsRising all → IsTied all f
+    → ((q : Spot) → InQueue queue q → f q ≡ false) → last_at queue all ≡ None
+none_last all f queue rising tied none =
+    one_last (is_in queue 0) all (last_at queue all) None (last_is (is_in queue 0) all rising)
+    (all_from_ids all rising (λ b at. cases (is_in queue 0 b)
+    (λ t. let there = in_queue queue 0 (spot_of b) t in
+    no_both (f there.0) (present all f tied b there.0 at there.1) (none there.0 (in_queue_range queue there.0 there.2 there.3)))
+    (λ f. f)))
+
+pub found_last : (all : List Attempt) (f : Spot → Bool) (queue : Queue) → IsRising all → IsTied all f
+    → (s : Spot) → InQueue queue s → ((q : Spot) → InQueue queue q → f q ≡ true → is_lt (spot_cmp s q) ≡ false)
+    → f s ≡ true → last_at queue all ≡ with_id s.id all
+found_last all f queue rising tied s range greatest is =
+    let there = listed all f tied s is in
+    let b = there.0 in
+    let same = within queue s range.0 range.1 in
+    let at : with_id b.id all ≡ Some b = ap (λ n. with_id n all) (id_at all s.id b there.1) ∙ there.1 in
+    let passes : is_in queue 0 b ≡ true = ap (is_spot_in queue 0) there.2 ∙ is_in_queue queue 0 s same (low_start queue 0 s same range.0) in
+    let last : (c : Attempt) → with_id c.id all ≡ Some c → is_in queue 0 c ≡ true → UpTo c b =
+    λ c at' t. (
+    let sc = in_queue queue 0 (spot_of c) t in
+    let lt = greatest sc.0 (in_queue_range queue sc.0 sc.2 sc.3) (present all f tied c sc.0 at' sc.1) in
+    let le = spots_le sc.0 s (sc.2 ∙ sym same) (le_of_not_lt (spot_cmp s sc.0) (spot_cmp sc.0 s) (spots_total.antisymm s sc.0) lt) in
+    starts_up_to c b sc.0 s sc.1 there.2 le) in
+    one_last (is_in queue 0) all (last_at queue all) (Some b) (last_is (is_in queue 0) all rising) (at, passes, all_from_ids all rising last)
+    ∙ sym there.1
+
 -- ---- one more
 
 numbers_same : (m n : ℕ) → (m == n) ≡ true → m ≡ n
@@ -223,17 +272,17 @@ IsTied-put all f g a b was apart tied h = record {
 }
 
 -- another tag changes no spot
-queue_retag : (place : Place) (tag : Tag) (arrival : Option Arrival) (state : State) → queue_of place (tagged tag arrival) state ≡ queue_of place arrival state
-queue_retag place tag None state = refl
-queue_retag place tag (Some arrival) Waiting = refl
-queue_retag place tag (Some arrival) (InFlight start) = refl
-queue_retag place tag (Some arrival) (Completed start end) = refl
-queue_retag place tag (Some arrival) (PutBack start end) = refl
+queue_retag : (place : Place) (sent : Sent) (tag : Tag) (arrival : Option Arrival) (state : State) → queue_of place sent (tagged tag arrival) state ≡ queue_of place sent arrival state
+queue_retag place sent tag None state = refl
+queue_retag place sent tag (Some arrival) Waiting = refl
+queue_retag place sent tag (Some arrival) (InFlight start) = refl
+queue_retag place sent tag (Some arrival) (Completed start end) = refl
+queue_retag place sent tag (Some arrival) (PutBack start end) = refl
 
 pub IsTied-retag : (all : List Attempt) (f : Spot → Bool) (tag : Tag) (b : Attempt) → with_id b.id all ≡ Some b → IsTied all f → IsTied (put (with_tag tag b) all) f
 IsTied-retag all f tag b was tied =
     let a = with_tag tag b in
-    let same : spot_of a ≡ spot_of b = ap (spot_in (start_of b.state) b.id) (queue_retag b.place tag b.arrival b.state) in
+    let same : spot_of a ≡ spot_of b = ap (spot_in (start_of b.state) b.id) (queue_retag b.place b.sent tag b.arrival b.state) in
     record {
       each = λ q. cases (a.id == q.id)
           (λ t. let e = numbers_same a.id q.id t in
@@ -315,3 +364,61 @@ added_as_or false c = refl
 pub removed_as_and : (b c : Bool) → cond b false c ≡ (not b && c)
 removed_as_and true c = refl
 removed_as_and false c = refl
+
+-- ---- which aren't where others are
+
+apart_by : (f : Option Spot → Bool) (a b : Attempt) → (f (spot_of a) ≡ f (spot_of b) → ⊥) → AreApart a b
+apart_by f a b other q h =
+    cases (is_at_spot (spot_of b) q)
+    (λ k. absurd (other (ap f (at_spot (spot_of a) q h) ∙ sym (ap f (at_spot (spot_of b) q k)))))
+    (λ k. k)
+
+abbrev flies : Option Spot → Bool
+flies None = false
+flies (Some s) = s.queue.lane.in_flight
+
+abbrev is_early : Option Spot → Bool
+is_early None = false
+is_early (Some s) = s.queue.lane.early
+
+differ : (b c : Bool) → b ≡ true → c ≡ false → b ≡ c → ⊥
+differ b c t f e = no_both b t (e ∙ f)
+
+waiting_flies_not : (place : Place) (sent : Sent) (arrival : Option Arrival) (state : State) (id : ℕ) → is_waiting state ≡ true → flies (spot_in (start_of state) id (queue_of place sent arrival state)) ≡ false
+waiting_flies_not place sent arrival Waiting id t = refl
+waiting_flies_not place sent arrival (InFlight start) id t = no_both false t refl
+waiting_flies_not place sent arrival (Completed start end) id t = no_both false t refl
+waiting_flies_not place sent arrival (PutBack start end) id t = no_both false t refl
+
+started_flies : (place : Place) (sent : Sent) (arrival : Option Arrival) (start id : ℕ) → flies (spot_in start id (queue_of place sent arrival (InFlight start))) ≡ true
+started_flies place sent None start id = refl
+started_flies place sent (Some arrival) start id = refl
+
+-- what is started was elsewhere
+pub apart_started : (sent : Sent) (time : ℕ) (a : Attempt) → is_waiting a.state ≡ true → AreApart a (in_flight_since sent time a)
+apart_started sent time a t =
+    let before = waiting_flies_not a.place a.sent a.arrival a.state a.id t in
+    let after = started_flies a.place sent a.arrival time a.id in
+    apart_by flies a (in_flight_since sent time a) (λ e. differ (flies (spot_of (in_flight_since sent time a))) (flies (spot_of a)) after before (sym e))
+
+early_before : (place : Place) (sent : Sent) (arrival : Option Arrival) (state : State) (id : ℕ) (x l : Bool) → (is_in_flight state && x && not (is_some arrival) && l) ≡ true
+    → is_early (spot_in (start_of state) id (queue_of place sent arrival state)) ≡ true
+early_before place sent arrival Waiting id x l t = no_both false t refl
+early_before place sent None (InFlight start) id x l t = refl
+early_before place sent (Some arrival) (InFlight start) id true l t = no_both false t refl
+early_before place sent (Some arrival) (InFlight start) id false l t = no_both false t refl
+early_before place sent arrival (Completed start end) id x l t = no_both false t refl
+early_before place sent arrival (PutBack start end) id x l t = no_both false t refl
+
+seen_after : (place : Place) (sent : Sent) (arrival : Arrival) (state : State) (id : ℕ) → is_early (spot_in (start_of state) id (queue_of place sent (Some arrival) state)) ≡ false
+seen_after place sent arrival Waiting id = refl
+seen_after place sent arrival (InFlight start) id = refl
+seen_after place sent arrival (Completed start end) id = refl
+seen_after place sent arrival (PutBack start end) id = refl
+
+-- one whose arrival is seen late was elsewhere
+pub apart_seen : (place : Place) (from : ℕ) (tag : Tag) (a : Attempt) → is_early_at place from a ≡ true → AreApart a (seen tag a)
+apart_seen place from tag a t =
+    let before = early_before a.place a.sent a.arrival a.state a.id (is_same_place a.place place) (nat_le from (start_of a.state)) t in
+    let after = seen_after a.place a.sent (record { time = start_of a.state; tag = tag }) a.state a.id in
+    apart_by is_early a (seen tag a) (differ (is_early (spot_of a)) (is_early (spot_of (seen tag a))) before after)

@@ -1,10 +1,11 @@
 -- attempts in the order in which they came
-use Rattle.std.specs.Prelude.{ℕ, ◌<◌, ◌==◌, nat_le, nat_lt, Bool, not, ◌&&◌, if◌then◌else◌, List, [], ◌∷◌, map, filter, find, Option, Some, None, is_some}
+use Rattle.std.specs.Prelude.{ℕ, ◌<◌, ◌==◌, nat_le, nat_lt, Bool, not, ◌&&◌, ◌||◌, if◌then◌else◌, List, [], ◌∷◌, map, filter, find, Option, Some, None, is_some}
 use Rattle.std.specs.Option.{option_eq}
 use Rattle.std.specs.Prelude.{nat_eq}
 use Rattle.std.specs.List.{AllByRecursion}
 pub use Rattle.capture_file.specs.declared.attempt.Attempt.{Attempt}
 use Rattle.capture_file.specs.declared.attempt.Place.{Place}
+use Rattle.capture_file.specs.declared.attempt.Sent.{Sent}
 use Rattle.capture_file.specs.States.{start_of, is_waiting, is_in_flight}
 
 -- their ids rise
@@ -38,6 +39,13 @@ waits_at place a = is_waiting a.state && is_same_place a.place place
 abbrev pub is_in_flight_at : Place → Attempt → Bool
 is_in_flight_at place a = is_in_flight a.state && is_same_place a.place place
 
+abbrev pub is_same_sent : Sent → Sent → Bool
+is_same_sent s t = (s.kind == t.kind) && (s.size == t.size)
+
+-- in flight there, and of that kind and size; if its arrival wasn't seen, neither is asked
+abbrev pub fits_at : Place → Sent → Attempt → Bool
+fits_at place sent a = is_in_flight_at place a && (not (is_some a.arrival) || is_same_sent a.sent sent)
+
 -- in flight there, its arrival not seen, and started no earlier than at a time
 abbrev pub is_early_at : Place → ℕ → Attempt → Bool
 is_early_at place from a = is_in_flight_at place a && not (is_some a.arrival) && nat_le from (start_of a.state)
@@ -55,10 +63,18 @@ first_started (a ∷ rest) = Some (earlier a (first_started rest))
 abbrev pub first_waiting : Place → List Attempt → Option Attempt
 first_waiting place all = find (waits_at place) all
 
--- the one that was started longest ago there
-abbrev pub first_in_flight : Place → List Attempt → Option Attempt
-first_in_flight place all = first_started (filter (is_in_flight_at place) all)
+-- the newest in flight there that fits: the one that was started last; of equal ones the one that came last
+abbrev pub later : Attempt → Option Attempt → Attempt
+later a None = a
+later a (Some b) = if nat_lt (start_of b.state) (start_of a.state) then a else b
 
--- the same of those whose arrival wasn't seen, and which weren't started before a time
+abbrev pub last_started : List Attempt → Option Attempt
+last_started [] = None
+last_started (a ∷ rest) = Some (later a (last_started rest))
+
+abbrev pub newest_at : Place → Sent → List Attempt → Option Attempt
+newest_at place sent all = last_started (filter (fits_at place sent) all)
+
+-- of those in flight there whose arrival wasn't seen, and which weren't started before a time, the one that was started first
 abbrev pub first_early : Place → ℕ → List Attempt → Option Attempt
 first_early place from all = first_started (filter (is_early_at place from) all)

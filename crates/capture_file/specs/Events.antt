@@ -3,6 +3,7 @@ use Rattle.std.specs.Prelude.{ℕ, ◌+◌, ◌-◌, ◌<◌, ◌==◌, if◌the
 use Rattle.std.specs.List.{AllByRecursion}
 use Rattle.capture_file.specs.declared.attempt.Arrival.{Arrival}
 use Rattle.capture_file.specs.declared.attempt.Place.{Place}
+use Rattle.capture_file.specs.declared.attempt.Sent.{Sent}
 use Rattle.capture_file.specs.declared.attempt.State.TheVariants.{Waiting, InFlight, Completed, PutBack}
 use Rattle.capture_file.specs.declared.attempt.Tag.{Tag}
 use Rattle.capture_file.specs.declared.requests.Came.{Came}
@@ -10,7 +11,7 @@ use Rattle.capture_file.specs.declared.requests.Came.TheVariants as came
 use Rattle.capture_file.specs.declared.requests.Ending.{Ending}
 use Rattle.capture_file.specs.declared.requests.Ending.TheVariants as ending
 use Rattle.capture_file.specs.States.{State, start_of}
-use Rattle.capture_file.specs.Attempts.{Attempt, with_id, put, without, is_same_place, first_waiting, first_in_flight, first_early}
+use Rattle.capture_file.specs.Attempts.{Attempt, with_id, put, without, is_same_place, first_waiting, newest_at, first_early}
 
 -- the attempts in the order in which they came, the id of the next one, and by how much an arrival may come after its start
 pub record Known : Type 0 where
@@ -24,11 +25,15 @@ AreBelow next all = AllByRecursion (λ (a : Attempt). a.id < next) all
 
 -- ---- one more
 
-abbrev pub added : Place → Option Arrival → State → Known → Attempt
-added place arrival state k = record { id = k.next; place = place; arrival = arrival; state = state }
+-- of one that waits nothing is said yet
+abbrev pub nothing : Sent
+nothing = record { kind = 0; size = 0 }
 
-abbrev pub add : Place → Option Arrival → State → Known → Known
-add place arrival state k = record k { next = k.next + 1; attempts = k.attempts ++ added place arrival state k ∷ [] }
+abbrev pub added : Place → Sent → Option Arrival → State → Known → Attempt
+added place sent arrival state k = record { id = k.next; place = place; sent = sent; arrival = arrival; state = state }
+
+abbrev pub add : Place → Sent → Option Arrival → State → Known → Known
+add place sent arrival state k = record k { next = k.next + 1; attempts = k.attempts ++ added place sent arrival state k ∷ [] }
 
 -- ---- an arrival
 
@@ -41,7 +46,7 @@ abbrev pub seen : Tag → Attempt → Attempt
 seen tag a = record a { arrival = Some (record { time = start_of a.state; tag = tag }) }
 
 abbrev pub arrived : Place → ℕ → Tag → Known → Option Attempt → Known
-arrived place time tag k None = add place (Some (record { time = time; tag = tag })) Waiting k
+arrived place time tag k None = add place nothing (Some (record { time = time; tag = tag })) Waiting k
 arrived place time tag k (Some a) = record k { attempts = put (seen tag a) k.attempts }
 
 abbrev pub after_arrival : Place → ℕ → Tag → Known → Known
@@ -89,59 +94,67 @@ behind_of place behind k = moved_if place (waiting_behind place behind k)
 
 -- ---- a start
 
-abbrev pub in_flight_since : ℕ → Attempt → Attempt
-in_flight_since time a = record a { state = InFlight time }
+abbrev pub in_flight_since : Sent → ℕ → Attempt → Attempt
+in_flight_since sent time a = record a { sent = sent; state = InFlight time }
 
-abbrev pub with_start : Place → ℕ → Known → Option Attempt → Known
-with_start place time k None = if is_some place.sector then add place None (InFlight time) k else k
-with_start place time k (Some a) = record k { attempts = put (in_flight_since time a) k.attempts }
+abbrev pub with_start : Place → Sent → ℕ → Known → Option Attempt → Known
+with_start place sent time k None = add place sent None (InFlight time) k
+with_start place sent time k (Some a) = record k { attempts = put (in_flight_since sent time a) k.attempts }
 
-abbrev pub after_start : Place → ℕ → Known → Known
-after_start place time k = with_start place time k (first_waiting place k.attempts)
+abbrev pub after_start : Place → Sent → ℕ → Known → Known
+after_start place sent time k = with_start place sent time k (first_waiting place k.attempts)
 
-abbrev pub started_as : Place → ℕ → Known → Option Attempt → Option Attempt
-started_as place time k None = if is_some place.sector then Some (added place None (InFlight time) k) else None
-started_as place time k (Some a) = Some (in_flight_since time a)
+abbrev pub started_as : Place → Sent → ℕ → Known → Option Attempt → Attempt
+started_as place sent time k None = added place sent None (InFlight time) k
+started_as place sent time k (Some a) = in_flight_since sent time a
 
-abbrev pub started : Place → ℕ → Known → Option Attempt
-started place time k = started_as place time k (first_waiting place k.attempts)
+abbrev pub started : Place → Sent → ℕ → Known → Attempt
+started place sent time k = started_as place sent time k (first_waiting place k.attempts)
+
+-- ---- an issue of what nobody queued: it arrives when it is issued
+
+abbrev pub issued : Place → Sent → ℕ → Tag → Known → Attempt
+issued place sent time tag k = added place sent (Some (record { time = time; tag = tag })) (InFlight time) k
+
+abbrev pub after_issue : Place → Sent → ℕ → Tag → Known → Known
+after_issue place sent time tag k = add place sent (Some (record { time = time; tag = tag })) (InFlight time) k
 
 -- ---- a put-back
 
 abbrev pub put_back_at : ℕ → Attempt → Attempt
 put_back_at time a = record a { state = PutBack (start_of a.state) time }
 
--- the next attempt, if the arrival of the one before is known
+-- the next attempt, if the arrival of the one before is known. What has no sector doesn't wait: its next attempt is an issue
 abbrev pub with_next : Place → ℕ → Option Arrival → Known → Known
 with_next place time None k = k
-with_next place time (Some before) k = add place (Some (record { time = time; tag = before.tag })) Waiting k
+with_next place time (Some before) k = if is_some place.sector then add place nothing (Some (record { time = time; tag = before.tag })) Waiting k else k
 
 abbrev pub with_put_back : ℕ → Known → Option Attempt → Known
 with_put_back time k None = k
 with_put_back time k (Some a) = with_next a.place time a.arrival (record k { attempts = put (put_back_at time a) k.attempts })
 
-abbrev pub after_put_back : Place → ℕ → Known → Known
-after_put_back place time k = with_put_back time k (first_in_flight place k.attempts)
+abbrev pub after_put_back : Place → Sent → ℕ → Known → Known
+after_put_back place sent time k = with_put_back time k (newest_at place sent k.attempts)
 
 abbrev pub put_back_if : ℕ → Option Attempt → Option Attempt
 put_back_if time None = None
 put_back_if time (Some a) = Some (put_back_at time a)
 
-abbrev pub put_back : Place → ℕ → Known → Option Attempt
-put_back place time k = put_back_if time (first_in_flight place k.attempts)
+abbrev pub put_back : Place → Sent → ℕ → Known → Option Attempt
+put_back place sent time k = put_back_if time (newest_at place sent k.attempts)
 
 -- ---- a completion
 
 abbrev pub completed_at : ℕ → Attempt → Attempt
 completed_at time a = record a { state = Completed (start_of a.state) time }
 
--- if none is in flight, the one that waited longest is gone
+-- if none in flight fits, the one that waited longest is gone
 abbrev pub with_completion : Place → ℕ → Known → Option Attempt → Known
 with_completion place time k None = without_it k (first_waiting place k.attempts)
 with_completion place time k (Some a) = record k { attempts = put (completed_at time a) k.attempts }
 
-abbrev pub after_completion : Place → ℕ → Known → Known
-after_completion place time k = with_completion place time k (first_in_flight place k.attempts)
+abbrev pub after_completion : Place → Sent → ℕ → Known → Known
+after_completion place sent time k = with_completion place time k (newest_at place sent k.attempts)
 
 abbrev pub ended_unstarted : Option Attempt → Ending
 ended_unstarted None = ending.Unknown
@@ -151,8 +164,8 @@ abbrev pub ending_as : Place → ℕ → Known → Option Attempt → Ending
 ending_as place time k None = ended_unstarted (first_waiting place k.attempts)
 ending_as place time k (Some a) = ending.Completed (completed_at time a)
 
-abbrev pub ending_of : Place → ℕ → Known → Ending
-ending_of place time k = ending_as place time k (first_in_flight place k.attempts)
+abbrev pub ending_of : Place → Sent → ℕ → Known → Ending
+ending_of place sent time k = ending_as place time k (newest_at place sent k.attempts)
 
 -- ---- another tag
 

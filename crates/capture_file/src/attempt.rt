@@ -3,12 +3,24 @@
 ghost use Rattle.std.specs.Prelude.{◌≡◌};
 ghost use Rattle.capture_file.specs.States.{start_of};
 
-/// Where a request is: its device and its first sector. A flush has none.
+/// Where a request is: its device and its first sector. A flush has none, and neither has a command.
 #[derive(Clone, Copy, PartialEq, Eq, PartialOrd, Ord)]
 pub struct Place {
     pub device: u32,
     pub sector: Option<u64>,
 }
+
+/// What a start or a completion says of a request beside its place.
+#[derive(Clone, Copy, PartialEq, Eq)]
+pub struct Sent {
+    /// The letter of its operation: `R`, `W`, `D`, `F` or another.
+    pub kind: u8,
+    /// In sectors.
+    pub size: u32,
+}
+
+/// What is said of one that waits.
+pub(crate) const NOTHING: Sent = Sent { kind: 0, size: 0 };
 
 /// What a caller says of a request when it arrives, and reads again later.
 #[derive(Clone, Copy)]
@@ -57,6 +69,8 @@ pub struct Attempt {
     /// Its number. Attempts that come later have higher ones, and none has that of another.
     pub id: u64,
     pub place: Place,
+    /// As its start says; zeroes while it waits.
+    pub sent: Sent,
     /// None if it wasn't seen.
     pub arrival: Option<Arrival>,
     pub state: State,

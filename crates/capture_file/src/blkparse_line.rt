@@ -138,8 +138,7 @@ fn action_of_letter(letter: u8) -> Result<Option<Action>, LineFault> {
 fn extent_of(text: &[u8]) -> Result<Extent, LineFault> {
     let (first, rest) = word(text)?;
     match first.first() {
-        Some(b'[') => Ok(Extent::Flush),
-        Some(b'(') => Ok(Extent::Command),
+        Some(b'[' | b'(') => Ok(Extent::None(None)),
         _ => match number(first) {
             None => Err(LineFault::BadNumber(Field::Sector)),
             Some(sector) => extent_from(sector, rest),
@@ -147,13 +146,13 @@ fn extent_of(text: &[u8]) -> Result<Extent, LineFault> {
     }
 }
 
-// The end of a flush, or of a write's flush, has a sector and no count of them.
+// The end of a flush, or of a write's flush, has a sector and no count of them; a command has its bytes there.
 fn extent_from(sector: u64, text: &[u8]) -> Result<Extent, LineFault> {
     let (second, rest) = word(text)?;
     match second.first() {
         Some(b'+') => Ok(Extent::Sectors(sector, sectors_of(rest)?)),
-        Some(b'(') => Ok(Extent::Command),
-        Some(b'[') => Ok(Extent::Flush),
+        Some(b'(') => Ok(Extent::None(None)),
+        Some(b'[') => Ok(Extent::None(Some(sector))),
         _ => Err(LineFault::NotAnEvent),
     }
 }

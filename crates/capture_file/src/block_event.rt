@@ -22,10 +22,8 @@ pub enum Action {
 pub enum Extent {
     /// From the first number on as many as the second says.
     Sectors(u64, u64),
-    /// None: a flush.
-    Flush,
-    /// None: a command of `SG_IO`, which has no arrival.
-    Command,
+    /// None: a flush, a command, or the end of a write's flush, which names the first sector of the write.
+    None(Option<u64>),
 }
 
 /// An event of a request.
@@ -47,4 +45,13 @@ pub struct RequestEvent<'a> {
 pub struct Event<'a> {
     pub time: u64,
     pub request: Option<RequestEvent<'a>>,
+}
+
+/// The letter of an operation, by the letters of an event: the first one, but after an `F` that says that a flush comes first.
+pub fn kind_of(flags: &[u8]) -> u8 {
+    match flags {
+        [b'F', kind @ (b'R' | b'W' | b'D'), ..] => *kind,
+        [kind, ..] => *kind,
+        [] => 0,
+    }
 }

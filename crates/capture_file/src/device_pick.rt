@@ -1,9 +1,11 @@
 //! Which devices are taken, and as which ones.
 
+use crate::words::device_numbers;
+
 /// Devices that are taken.
 #[derive(Drop)]
 pub enum DevicePick {
-    /// The device of this name.
+    /// The device of this name. Major and minor number may stand with a comma or a colon between them.
     Name(String),
     /// Each device whose name matches the pattern, all as one device of the name. In a pattern `*` stands for any characters, also
     /// for none, and any other character for itself.
@@ -14,9 +16,11 @@ impl DevicePick {
     /// The name by which a device is listed. None if it isn't one of these.
     pub fn listed<'a>(&'a self, device: &'a [u8]) -> Option<&'a [u8]> {
         match self {
-            DevicePick::Name(name) => (name.as_bytes() == device).then_some(device),
+            DevicePick::Name(name) => is_same_device(name.as_bytes(), device).then_some(device),
             DevicePick::Pattern { pattern, name } => {
-                matches_pattern(pattern.as_bytes(), device).then_some(name.as_bytes())
+                let pattern = pattern.as_bytes();
+                let is_one = is_same_device(pattern, device) || matches_pattern(pattern, device);
+                is_one.then_some(name.as_bytes())
             }
         }
     }
@@ -27,6 +31,15 @@ impl DevicePick {
             DevicePick::Name(name) | DevicePick::Pattern { name, .. } => name.as_str(),
         }
     }
+}
+
+/// Whether two names are one, or the same two numbers: `8,16` and `8:16`.
+pub fn is_same_device(one: &[u8], other: &[u8]) -> bool {
+    one == other
+        || match (device_numbers(one), device_numbers(other)) {
+            (Some(one), Some(other)) => one == other,
+            _ => false,
+        }
 }
 
 // Whether a pattern matches a text.

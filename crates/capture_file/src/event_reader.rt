@@ -1,28 +1,35 @@
 //! Reads events of block devices: blkparse's text, and the kernel's tracepoints.
 
-use crate::attempt::{Arrival, Attempt as Tried, Place, State, Tag};
+use crate::attempt::{Arrival, Attempt as Tried, Place, Sent, State, Tag};
 use crate::blkparse_line::event_of;
-use crate::block_event::{Action, Event, Extent, RequestEvent};
+use crate::block_event::{Action, Event, Extent, RequestEvent, kind_of};
 use crate::captured::{Capture, Counts};
-use crate::finishing::{Drivers, capture_of};
+use crate::finishing::{Drivers, Flown, capture_of, names_text};
+use crate::flights::{Times, Unstarted};
 use crate::line_fault::LineFault;
+use crate::lost_events::lost_in;
+use crate::names::Names;
 use crate::options::{DriverBy, Options, Priorities, SKEW, SLACK};
 use crate::own_devices::OwnDevices;
-use crate::priority::{USUAL, flags_priority};
+use crate::priority::{SOON, USUAL, flags_priority};
 use crate::requests::{Came, Ending, Requests};
 use crate::sizes::Sizes;
 use crate::sorted_reader::push_parts;
+use crate::tenants::Tenants;
 use crate::tracepoint_line::tracepoint_of;
 use capture::TimedRequest;
 use capture_windows::{Attempt, TimeSpan, goes_on};
 use std::alloc::{AllocError, Global};
-use std::collections::BTreeMap;
+use std::collections::{BTreeMap, BTreeSet};
 
 // What is said of an attempt whose arrival wasn't seen.
 const NO_TAG: Tag = Tag {
     driver: 0,
     priority: USUAL,
 };
+
+// The driver of what the block layer issues and nobody queued: flushes, and commands of `SG_IO`.
+const FLUSH: &[u8] = b"flush";
 
 /// What kind of text events are.
 #[derive(Clone, Copy)]
@@ -35,11 +42,13 @@ pub enum EventForm {
 
 /// Reads events of block devices, line by line.
 ///
-/// A request is a device and a first sector, or a device's flush. It arrives when it is queued and starts when it is issued. One that is
-/// merged into another that waits is part of that one, which keeps its arrival. If one is put back, its next attempt is a request that
-/// arrives then. Of several requests of one place the first one that waits starts first. Commands of `SG_IO` have no arrival, and the
-/// kernel's own flushes, which follow a write, have none either. A start that is seen at most 100 us before its arrival was seen by
-/// another processor's clock: that request arrived when it was started. So a time that goes back by as much counts as that before it.
+/// A request is a device and a first sector. It arrives when it is queued and starts when it is issued. One that is merged into another
+/// that waits is part of that one, which keeps its arrival. If one is put back, its next attempt is a request that arrives then. Of
+/// several requests of one place the first one that waits starts first, and a completion is of the newest one in flight of its kind and
+/// size. A flush or a command without sectors arrives when it is issued, and is of the driver `flush`. A write that is flushed after it is
+/// completed twice: its slot is free at the first completion, and it is done at the second. A start that is seen at most 100 us before its
+/// arrival was seen by another processor's clock: that request arrived when it was started. So a time that goes back by as much counts as
+/// that before it.
 #[derive(Drop)]
 pub struct EventReader<'a> {
     alloc: Global,
@@ -51,6 +60,15 @@ pub struct EventReader<'a> {
     // The ids of the attempts that were given away last, and of those in flight how many were when they were started.
     given: Vec<u64>,
     numbers: BTreeMap<u64, u32>,
+    // The completed writes that may be completed a second time, by their device, first sector, start and id; when those
+    // were that are; and completions of what was neither started nor waits.
+    written: BTreeSet<(u32, u64, u64, u64)>,
+    done: BTreeMap<u64, u64>,
+    unstarted: Vec<Unstarted>,
+    // The first time of a line.
+    begin: Option<u64>,
+    others: Names,
+    tenants: Tenants,
     // The priorities by their I/O classes of those that were started, and whose arrivals weren't seen yet.
     classes: BTreeMap<u64, u32>,
     sizes: Sizes,
@@ -75,6 +93,12 @@ impl<'a> EventReader<'a> {
             requests: Requests::new(alloc, SKEW),
             given: Vec::new(alloc),
             numbers: BTreeMap::new(alloc),
+            written: BTreeSet::new(alloc),
+            done: BTreeMap::new(alloc),
+            unstarted: Vec::new(alloc),
+            begin: None,
+            others: Names::new(alloc),
+            tenants: Tenants::new(alloc),
             classes: BTreeMap::new(alloc),
             sizes: Sizes::new(alloc),
             last_time: 0,
@@ -84,21 +108,32 @@ impl<'a> EventReader<'a> {
         }
     }
 
-    /// What was read.
+    /// What was read. A device has the slots that `depths` gives it by its name.
     ///
     /// # Errors
     ///
     /// `TooManyDevices` if more than 32 devices have requests, `OutOfMemory` if no memory is left.
-    pub fn finish(self) -> Result<Capture, LineFault> {
+    pub fn finish(self, depths: &[(String, u32)]) -> Result<Capture, LineFault> {
         let mut counts = self.devices.counted(self.counts);
-        let (mut requests, mut flights) = (Vec::new(self.alloc), Vec::new(self.alloc));
+        counts.has_processes = self.tenants.are_several();
+        let (mut requests, mut started) = (Vec::new(self.alloc), Vec::new(self.alloc));
         for tried in self.requests.attempts().values() {
             match self.attempt(tried) {
                 Some(attempt) => {
-                    if tried.arrival.is_some() && !attempt.is_taken {
-                        counts.other_times = counts.other_times.saturating_add(1);
+                    match tried.arrival {
+                        None => {
+                            counts.without_arrival = counts.without_arrival.saturating_add(1);
+                        }
+                        Some(_) if attempt.is_taken => {}
+                        Some(_) => counts.other_times = counts.other_times.saturating_add(1),
                     }
-                    push_parts(&attempt, &mut requests, &mut flights)?;
+                    push_parts(&attempt, &mut requests, &mut started)?;
+                    if attempt.is_taken
+                        && let Some(done) = self.done.get(&tried.id)
+                        && let Some(request) = requests.last_mut()
+                    {
+                        request.completed = Some(*done);
+                    }
                 }
                 None => {
                     counts.requests_without_starts = counts
@@ -107,16 +142,41 @@ impl<'a> EventReader<'a> {
                 }
             }
         }
-        capture_of(
+        let flown = Flown {
+            times: Times {
+                begin: self.begin.unwrap_or(0),
+                end: self.last_time,
+            },
+            depths,
+            started,
+            unstarted: self.listed_unstarted()?,
+        };
+        let capture = capture_of(
             self.alloc,
             self.options,
             requests,
-            flights,
+            Some(&flown),
             self.devices.listed(),
             self.drivers.list(),
             &self.sizes,
             counts,
-        )
+        )?;
+        let others = names_text(self.alloc, self.others.list())?;
+        Ok(Capture { others, ..capture })
+    }
+
+    // Completions without a start, with the devices as which theirs are listed. Where nothing is started there is none.
+    fn listed_unstarted(&self) -> Result<Vec<Unstarted>, AllocError> {
+        let mut list = Vec::new(self.alloc);
+        for one in &self.unstarted {
+            if let Some(device) = self.devices.listed_with_starts(one.device) {
+                list.push(Unstarted {
+                    device,
+                    time: one.time,
+                })?;
+            }
+        }
+        Ok(list)
     }
 
     // An attempt as one at the device as which its own is listed; none if nothing was started at that.
@@ -143,7 +203,7 @@ impl<'a> EventReader<'a> {
                 priority: tag.priority,
             },
             is_taken: tried.arrival.is_some() && self.options.takes_time(arrival),
-            has_slot: tried.place.sector.is_some(),
+            has_slot: true,
             number: self.numbers.get(&tried.id).copied().unwrap_or(0),
         })
     }
@@ -166,64 +226,111 @@ impl<'a> EventReader<'a> {
 
     fn apply(&mut self, time: u64, event: RequestEvent<'_>) -> Result<(), LineFault> {
         let Some(device) = self.devices.number(self.options, event.device)? else {
-            self.pass_other(event.action);
-            return Ok(());
+            return Ok(self.pass_other(event)?);
         };
-        match event.extent {
-            Extent::Command => Ok(self.pass_command(device, event.action)),
-            Extent::Flush if ends_a_write(event) => Ok(self.count_stray()),
-            Extent::Flush => {
-                let place = place_of(device, None)?;
-                self.apply_at(time, place, 0, event)
+        let place = place_of(device, event.extent)?;
+        match event.action {
+            Action::Arrives => self.arrive(time, place, event),
+            Action::JoinsEnd => {
+                if place.sector.is_some() {
+                    self.requests.merge_back(place);
+                }
+                Ok(())
             }
-            Extent::Sectors(sector, sectors) => {
-                let place = place_of(device, Some(sector))?;
-                self.apply_at(time, place, sectors, event)
+            Action::JoinsFront => {
+                if let Extent::Sectors(_, sectors) = event.extent {
+                    self.requests.merge_front(place, behind(place, sectors))?;
+                }
+                Ok(())
             }
+            Action::Starts => self.start(time, place, event),
+            Action::Returns => {
+                self.requests.put_back(place, sent_of(event), time)?;
+                Ok(())
+            }
+            Action::Completes => Ok(self.complete(time, place, event)?),
         }
     }
 
-    fn apply_at(
+    // What has no sectors arrives when it is issued.
+    fn start(&mut self, time: u64, place: Place, event: RequestEvent<'_>) -> Result<(), LineFault> {
+        let device = place.device as usize;
+        self.devices.count_start(device);
+        self.counts.starts = self.counts.starts.saturating_add(1);
+        let sent = sent_of(event);
+        if place.sector.is_none() {
+            let tag = self.flush_tag(time)?;
+            self.requests.issue(place, sent, time, tag)?;
+            return Ok(());
+        }
+        let tried = self.requests.start(place, sent, time)?;
+        if let Some(priority) = event.priority
+            && self.options.priorities == Priorities::Class
+        {
+            self.note_class(tried, priority)?;
+        }
+        if let Some(arrival) = tried.arrival {
+            self.count_size(arrival.time, device, sectors_of(event))?;
+        }
+        Ok(())
+    }
+
+    // What is said of a flush.
+    fn flush_tag(&mut self, time: u64) -> Result<Tag, LineFault> {
+        let (driver, own) = if self.options.is_before_end(time) {
+            self.drivers.number(self.options, FLUSH)?
+        } else {
+            (0, None)
+        };
+        let usual = match self.options.priorities {
+            Priorities::Class | Priorities::Direction => SOON,
+            Priorities::Flat => USUAL,
+        };
+        let priority = own.unwrap_or(usual);
+        Ok(Tag { driver, priority })
+    }
+
+    fn complete(
         &mut self,
         time: u64,
         place: Place,
-        sectors: u64,
         event: RequestEvent<'_>,
-    ) -> Result<(), LineFault> {
-        let device = place.device as usize;
-        match event.action {
-            Action::Arrives => self.arrive(time, place, sectors, event)?,
-            Action::JoinsEnd => {
-                self.requests.merge_back(place);
-            }
-            Action::JoinsFront => {
-                self.requests.merge_front(place, behind(place, sectors))?;
-            }
-            Action::Starts => {
-                self.devices.count_start(device);
-                let tried = self.requests.start(place, time)?;
-                if let (Some(tried), Some(priority)) = (tried, event.priority)
-                    && self.options.priorities == Priorities::Class
+    ) -> Result<(), AllocError> {
+        let sent = sent_of(event);
+        let is_write = sent.kind == b'W';
+        if let Extent::None(Some(sector)) = event.extent
+            && is_write
+            && let Some(write) = self.written_at(place.device, sector)
+        {
+            self.written.remove(&write);
+            self.done.insert(write.3, time)?;
+            return Ok(());
+        }
+        match self.requests.complete(place, sent, time) {
+            Ending::Completed(tried) => {
+                if let Some(sector) = place.sector
+                    && is_write
                 {
-                    self.note_class(tried, priority)?;
-                }
-                match arrival_of(tried) {
-                    Some(arrival) => self.count_size(arrival, device, sectors)?,
-                    None => self.count_stray(),
+                    let start = tried.state.start();
+                    self.written.insert((place.device, sector, start, tried.id))?;
                 }
             }
-            Action::Returns => {
-                if arrival_of(self.requests.put_back(place, time)?).is_none() {
-                    self.count_stray();
-                }
-            }
-            Action::Completes => match self.requests.complete(place, time) {
-                Ending::Completed(tried) if tried.arrival.is_some() => {}
-                Ending::NeverStarted(_) => self.devices.count_end(device),
-                Ending::Completed(_) | Ending::Unknown => self.count_stray(),
-            },
+            Ending::NeverStarted(_) => self.devices.count_end(place.device as usize),
+            // A write that was completed before the capture may be completed again in it.
+            Ending::Unknown if is_write && place.sector.is_none() => {}
+            Ending::Unknown => self.unstarted.push(Unstarted {
+                device: place.device,
+                time,
+            })?,
         }
         Ok(())
+    }
+
+    // The write that begins at a sector and was started last, of those that were completed once.
+    fn written_at(&self, device: u32, sector: u64) -> Option<(u32, u64, u64, u64)> {
+        let first = (device, sector, 0, 0);
+        let last = (device, sector, u64::MAX, u64::MAX);
+        self.written.range(first..=last).next_back().copied()
     }
 
     // Keeps the priority by the I/O class that a start has, unless its driver has one of its own.
@@ -242,31 +349,27 @@ impl<'a> EventReader<'a> {
     }
 
     // An event of a device that isn't taken.
-    fn pass_other(&mut self, action: Action) {
-        if action == Action::Arrives {
+    fn pass_other(&mut self, event: RequestEvent<'_>) -> Result<(), AllocError> {
+        if let (Action::Arrives, Extent::Sectors(_, _)) = (event.action, event.extent) {
             self.counts.other_devices = self.counts.other_devices.saturating_add(1);
         }
+        self.others.note(event.device)
     }
 
-    // A command of `SG_IO` has no arrival.
-    fn pass_command(&mut self, device: usize, action: Action) {
-        if action == Action::Starts {
-            self.devices.count_start(device);
-        }
-        if action != Action::Arrives {
-            self.count_stray();
-        }
-    }
-
+    // A flush that somebody asked for arrives when it is issued.
     fn arrive(
         &mut self,
         time: u64,
         place: Place,
-        sectors: u64,
         event: RequestEvent<'_>,
     ) -> Result<(), LineFault> {
+        if place.sector.is_none() {
+            return Ok(());
+        }
+        self.counts.arrivals = self.counts.arrivals.saturating_add(1);
         // What arrives after the times that are taken is left out, and so are its drivers.
         let (driver, own) = if self.options.is_before_end(time) {
+            self.tenants.note(event.pid)?;
             let name = match self.options.driver_by {
                 Some(DriverBy::Pid) => event.pid,
                 _ => event.process,
@@ -278,15 +381,17 @@ impl<'a> EventReader<'a> {
         let usual = usual_priority(self.options.priorities, event.flags);
         let priority = own.unwrap_or(usual);
         if let Came::Started(id) = self.requests.arrive(place, time, Tag { driver, priority })? {
-            self.counts.without_arrival = self.counts.without_arrival.saturating_sub(1);
             self.counts.early_starts = self.counts.early_starts.saturating_add(1);
             if let Some(priority) = self.classes.remove(&id)
                 && own.is_none()
             {
                 self.requests.retag(id, Tag { driver, priority });
             }
-            if let Some(arrival) = arrival_of(self.requests.get(id)) {
-                self.count_size(arrival, place.device as usize, sectors)?;
+            if let Some(tried) = self.requests.get(id)
+                && let Some(arrival) = tried.arrival
+            {
+                let (device, sectors) = (place.device as usize, sectors_of(event));
+                self.count_size(arrival.time, device, sectors)?;
             }
         }
         Ok(())
@@ -299,10 +404,6 @@ impl<'a> EventReader<'a> {
         }
     }
 
-    fn count_stray(&mut self) {
-        self.counts.without_arrival = self.counts.without_arrival.saturating_add(1);
-    }
-
     /// Takes a line. What isn't an event of a block device that is taken is passed over.
     ///
     /// # Errors
@@ -311,17 +412,25 @@ impl<'a> EventReader<'a> {
     pub(crate) fn take(&mut self, line: &[u8]) -> Result<(), LineFault> {
         self.counts.lines = self.counts.lines.saturating_add(1);
         let event = match self.form {
-            EventForm::Blkparse => event_of(line)?,
-            EventForm::Tracepoints => tracepoint_of(line)?,
+            EventForm::Blkparse => event_of(line),
+            EventForm::Tracepoints => tracepoint_of(line),
         };
-        let Some(Event { time, request }) = event else {
-            return Ok(());
+        let Event { time, request } = match event {
+            Ok(Some(event)) => event,
+            Ok(None) | Err(LineFault::NotAnEvent) if let Some(lost) = lost_in(line) => {
+                return Ok(self.counts.count_lost(lost));
+            }
+            Ok(None) => return Ok(()),
+            Err(fault) => return Err(fault),
         };
         if time.saturating_add(SKEW) < self.last_time {
             return Err(LineFault::TimeFalls);
         }
         let time = time.max(self.last_time);
         self.last_time = time;
+        if self.begin.is_none() {
+            self.begin = Some(time);
+        }
         self.look(time);
         match request {
             None => Ok(()),
@@ -333,6 +442,10 @@ impl<'a> EventReader<'a> {
     pub(crate) fn take_attempts(&mut self) -> Result<Vec<Attempt>, AllocError> {
         let mut list = Vec::new(self.alloc);
         let mut given = Vec::new(self.alloc);
+        // Windows have no second completions, and none without a start.
+        self.written = BTreeSet::new(self.alloc);
+        self.done = BTreeMap::new(self.alloc);
+        self.unstarted.clear();
         for tried in self.requests.attempts().values() {
             if let Some(attempt) = self.attempt(tried) {
                 list.push(attempt)?;
@@ -369,11 +482,34 @@ impl<'a> EventReader<'a> {
     }
 }
 
-// Where requests of a device are that begin at a sector.
-fn place_of(device: usize, sector: Option<u64>) -> Result<Place, LineFault> {
-    match u32::try_from(device) {
-        Ok(device) => Ok(Place { device, sector }),
-        Err(_) => Err(LineFault::TooManyDevices(device)),
+// Where what an event speaks of is.
+fn place_of(device: usize, extent: Extent) -> Result<Place, LineFault> {
+    let Ok(number) = u32::try_from(device) else {
+        return Err(LineFault::TooManyDevices(device));
+    };
+    let sector = match extent {
+        Extent::Sectors(sector, _) => Some(sector),
+        Extent::None(_) => None,
+    };
+    Ok(Place {
+        device: number,
+        sector,
+    })
+}
+
+// How many sectors an event has.
+fn sectors_of(event: RequestEvent<'_>) -> u64 {
+    match event.extent {
+        Extent::Sectors(_, sectors) => sectors,
+        Extent::None(_) => 0,
+    }
+}
+
+// What an event says of a request beside its place.
+fn sent_of(event: RequestEvent<'_>) -> Sent {
+    Sent {
+        kind: kind_of(event.flags),
+        size: u32::try_from(sectors_of(event)).unwrap_or(u32::MAX),
     }
 }
 
@@ -384,16 +520,6 @@ fn behind(place: Place, sectors: u64) -> Option<Place> {
         sector: Some(sector),
         ..place
     })
-}
-
-// When an attempt arrived, if there is one and that was seen.
-fn arrival_of(tried: Option<Tried>) -> Option<u64> {
-    Some(tried?.arrival?.time)
-}
-
-// Whether a completion without sectors is that of a write which was flushed after it: its sectors were completed before.
-fn ends_a_write(event: RequestEvent<'_>) -> bool {
-    event.action == Action::Completes && !event.flags.starts_with(b"F")
 }
 
 fn usual_priority(priorities: Priorities, flags: &[u8]) -> u32 {

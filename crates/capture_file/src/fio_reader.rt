@@ -137,7 +137,7 @@ impl<'a> FioReader<'a> {
             self.alloc,
             self.options,
             requests,
-            Vec::new(self.alloc),
+            None,
             self.devices.list(),
             self.drivers.list(),
             &sizes,

@@ -3,20 +3,21 @@
 ghost use Rattle.std.specs.Prelude.{◌≡◌, ◌++◌, ◌≤◌, Some, true, IsSomeAnd};
 ghost use Rattle.capture_file.specs.declared.attempt.Attempt.{Attempt};
 ghost use Rattle.capture_file.specs.declared.attempt.Place.{Place};
+ghost use Rattle.capture_file.specs.declared.attempt.Sent.{Sent};
 ghost use Rattle.capture_file.specs.States.{start_of};
-ghost use Rattle.capture_file.specs.Attempts.{ids, with_id, waits_at, is_in_flight_at, first_waiting, first_in_flight};
+ghost use Rattle.capture_file.specs.Attempts.{ids, with_id, waits_at, fits_at, first_waiting, newest_at};
 ghost use Rattle.capture_file.specs.Events.{without_it};
 ghost use Rattle.capture_file.specs.Laws.{Event, after, gone, new_ids, IsStartKept, IsArrivalKept};
 
 use crate::requests::Requests;
 
-/// Of those that wait at a place the first one is the one that came first; of those in flight there, one that was started
-/// first.
-pub fn longest_come_first(requests: &Requests)
+/// Of those that wait at a place one that came first is started; of those in flight there that fit a completion, one that was started
+/// last is completed.
+pub fn oldest_starts_and_newest_ends(requests: &Requests)
     ensures waiting { (place : Place) (a : Attempt) → with_id a.id requests.now.attempts ≡ Some a → waits_at place a ≡ true
         → IsSomeAnd (first_waiting place requests.now.attempts) (λ (first : Attempt). (waits_at place first ≡ true) × (first.id ≤ a.id)) }
-    ensures in_flight { (place : Place) (a : Attempt) → with_id a.id requests.now.attempts ≡ Some a → is_in_flight_at place a ≡ true
-        → IsSomeAnd (first_in_flight place requests.now.attempts) (λ (first : Attempt). (is_in_flight_at place first ≡ true) × (start_of first.state ≤ start_of a.state)) }
+    ensures in_flight { (place : Place) (sent : Sent) (a : Attempt) → with_id a.id requests.now.attempts ≡ Some a → fits_at place sent a ≡ true
+        → IsSomeAnd (newest_at place sent requests.now.attempts) (λ (last : Attempt). (fits_at place sent last ≡ true) × (start_of a.state ≤ start_of last.state)) }
 {
     let _first = requests.get(0);
 }

@@ -3,6 +3,7 @@
 ghost use Rattle.std.specs.Prelude.{◌≡◌};
 ghost use Rattle.capture_file.specs.declared.line_fault.LineFault.TheVariants.{OutOfMemory};
 
+use crate::priority::LAST;
 use std::alloc::{AllocError, AllocFailed};
 use std::fmt;
 use thiserror::Error;
@@ -25,6 +26,16 @@ pub enum Field {
     Start,
     End,
     Priority,
+}
+
+impl Field {
+    // The most that it may be. Times are in nanoseconds.
+    fn most(self) -> u64 {
+        match self {
+            Field::Priority => u64::from(LAST),
+            _ => u64::MAX,
+        }
+    }
 }
 
 impl fmt::Display for Field {
@@ -115,7 +126,8 @@ impl fmt::Display for LineFault {
                 "the arrival is more than a second before that of an earlier line: sort the lines by arrival, or read all of it first by --unsorted",
             LineFault::BadNumber(field) => return write!(
                 f,
-                "the {field} isn't a number in its range"
+                "the {field} isn't a number from 0 to {}",
+                field.most()
             ),
             LineFault::TooManyDrivers =>
                 "a 257th driver, and a recording has at most 256: take fewer requests by --device or --to-time",

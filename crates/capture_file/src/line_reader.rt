@@ -1,6 +1,7 @@
 //! Feeds a reader of captures line by line.
 
 use crate::line_fault::LineFault;
+use crate::packed::Packed;
 use memchr::{memchr, memchr_iter};
 use std::alloc::{AllocError, Global};
 use std::io;
@@ -9,6 +10,9 @@ use thiserror::Error;
 
 /// The most bytes that a line has, without its end.
 pub const MAX_LINE_BYTES: usize = 65_536;
+
+// From so many bytes on a line has no end.
+const ENDLESS: usize = 16_777_216;
 
 // How many bytes a read asks for.
 const CHUNK: usize = 65_536;
@@ -36,12 +40,27 @@ pub enum ReadFault {
     /// The input has no line, blank ones aside.
     #[error("there is nothing in it: capture again, and see what the tool says on standard error")]
     Empty,
+    /// The input isn't text.
+    #[error("{0}")]
+    Packed(Packed),
     /// A read failed.
-    #[error("read failed")]
+    #[error("{what}", what = failed(.0))]
     ReadFailed(io::Error),
     /// There is no memory left.
     #[error("out of memory")]
     OutOfMemory,
+}
+
+// What the system says of a folder.
+const IS_A_DIRECTORY: i32 = 21;
+
+/// Why a read failed.
+pub fn failed(error: &io::Error) -> &'static str {
+    if error.raw_os_error() == Some(IS_A_DIRECTORY) {
+        "it is a directory"
+    } else {
+        "read failed"
+    }
 }
 
 /// Which of the lines that are refused are left out.
@@ -70,6 +89,8 @@ pub struct Refused {
     text: Vec<u8>,
     // Whether that line ends the reading.
     is_last: bool,
+    // Whether the last line of an input has no end and was left out.
+    is_cut: bool,
 }
 
 impl Refused {
@@ -83,7 +104,13 @@ impl Refused {
             first: None,
             text: Vec::new(alloc),
             is_last: false,
+            is_cut: false,
         }
+    }
+
+    /// Whether the last line of an input has no end, isn't one of its kind, and was left out.
+    pub fn is_cut(&self) -> bool {
+        self.is_cut
     }
 
     /// The first line that was refused: the number of its input and its own, and why.
@@ -133,12 +160,13 @@ impl Refused {
 
 /// Feeds the lines of an input to a reader until it needs no more, and answers whether there was one that isn't blank. A line ends with a line feed, or
 /// with a carriage return and a line feed; the last one may lack its end. Besides what the reader keeps this takes 128 KiB. Lines that
-/// are refused are put down in `refused`: also those that have a carriage return inside, or more than 65,536 bytes.
+/// are refused are put down in `refused`: also those that have a carriage return inside, or more than 65,536 bytes. But if the last of
+/// several lines has no end and would be refused, it was cut, and is left out, unless all lines have to be taken.
 ///
 /// # Errors
 ///
 /// `Line` once more lines were refused than may be left out, with the first of all; [`Refused::fault`] says at the end whether it were too
-/// many. `ReadFailed` if a read fails, `OutOfMemory` if no memory is left.
+/// many. `Packed` if the input isn't text. `ReadFailed` if a read fails, `OutOfMemory` if no memory is left.
 pub fn read_lines<R: Read, T: LineReader>(
     alloc: Global,
     input: &mut R,
@@ -149,7 +177,7 @@ pub fn read_lines<R: Read, T: LineReader>(
         return Err(ReadFault::OutOfMemory);
     };
     let mut lines = Lines::new(alloc, refused);
-    for _ in 0..u64::MAX {
+    for turn in 0..u64::MAX {
         if reader.is_done() {
             break;
         }
@@ -157,7 +185,13 @@ pub fn read_lines<R: Read, T: LineReader>(
         if count == 0 {
             break;
         }
-        lines.take(chunk.get(..count).unwrap_or(b""), reader)?;
+        let bytes = chunk.get(..count).unwrap_or(b"");
+        if turn == 0
+            && let Some(packed) = Packed::of(bytes)
+        {
+            return Err(ReadFault::Packed(packed));
+        }
+        lines.take(bytes, reader)?;
     }
     lines.finish(reader)
 }
@@ -173,8 +207,12 @@ fn read_some<R: Read>(input: &mut R, chunk: &mut [u8]) -> Result<usize, ReadFaul
 #[derive(Drop)]
 struct Lines<'a> {
     line: Vec<u8>,
+    // How many bytes of the line were read.
+    passed: usize,
     refused: &'a mut Refused,
     too_long: bool,
+    // Whether the input ended before the line did.
+    is_end: bool,
     before: u64,
     has_text: bool,
 }
@@ -183,8 +221,10 @@ impl<'a> Lines<'a> {
     fn new(alloc: Global, refused: &'a mut Refused) -> Lines<'a> {
         Lines {
             line: Vec::new(alloc),
+            passed: 0,
             refused,
             too_long: false,
+            is_end: false,
             before: 0,
             has_text: false,
         }
@@ -203,7 +243,8 @@ impl<'a> Lines<'a> {
         self.add(bytes.get(begin..).unwrap_or(b""), reader)
     }
 
-    // A line that is too long isn't read to its end, since it may have none, unless all lines may be left out.
+    // A line that is too long isn't read to its end, since it may have none. If all lines may be left out, it is read as far as a line may
+    // be long at all.
     fn add<T: LineReader>(&mut self, piece: &[u8], reader: &mut T) -> Result<(), ReadFault> {
         let room = MAX_LINE_BYTES.saturating_sub(self.line.len());
         if piece.len() > room {
@@ -213,7 +254,9 @@ impl<'a> Lines<'a> {
         if self.line.extend_from_slice(part).is_err() {
             return Err(ReadFault::OutOfMemory);
         }
-        if self.too_long && self.refused.tolerance != Tolerance::Lenient {
+        self.passed = self.passed.saturating_add(piece.len());
+        let is_lenient = self.refused.tolerance == Tolerance::Lenient && self.passed <= ENDLESS;
+        if self.too_long && !is_lenient {
             self.refused.is_last = true;
             return self.refuse(LineFault::TooLong, reader);
         }
@@ -230,9 +273,11 @@ impl<'a> Lines<'a> {
         match answer {
             Ok(is_blank) => self.has_text = self.has_text || !is_blank,
             Err(LineFault::OutOfMemory) => return Err(ReadFault::OutOfMemory),
+            Err(_) if self.is_cut() => self.refused.is_cut = true,
             Err(fault) => self.refuse(fault, reader)?,
         }
         self.line.clear();
+        self.passed = 0;
         self.too_long = false;
         self.before = self.before.saturating_add(1);
         Ok(())
@@ -254,8 +299,17 @@ impl<'a> Lines<'a> {
         Ok(())
     }
 
+    // Whether this is the last of several lines, has no end, and may be left out.
+    fn is_cut(&self) -> bool {
+        self.is_end
+            && self.before > 0
+            && !self.too_long
+            && self.refused.tolerance != Tolerance::Strict
+    }
+
     fn finish<T: LineReader>(mut self, reader: &mut T) -> Result<bool, ReadFault> {
         if !self.line.is_empty() || self.too_long {
+            self.is_end = true;
             self.end_line(reader)?;
         }
         Ok(self.has_text)

@@ -4,6 +4,9 @@ use crate::line_fault::LineFault;
 use std::alloc::{AllocError, Global};
 use std::collections::BTreeMap;
 
+// How many names are put down that are only told.
+const MAX_NOTED: usize = 32;
+
 /// Names, numbered from 0 on in the order in which they came.
 #[derive(Drop)]
 pub struct Names {
@@ -39,6 +42,14 @@ impl Names {
             None => self.add(name)?,
         };
         u32::try_from(number).map_err(|_| LineFault::TooManyDevices(number))
+    }
+
+    /// Adds a name unless it came already, or 32 others did.
+    pub fn note(&mut self, name: &[u8]) -> Result<(), AllocError> {
+        if self.len() < MAX_NOTED && self.number_of(name).is_none() {
+            self.add(name)?;
+        }
+        Ok(())
     }
 
     /// Adds a name that is new, and answers its number.

@@ -87,7 +87,7 @@ impl OwnDevices {
         for device in &self.list {
             let ends = device.ends_without_start;
             if device.starts > 0 {
-                counts.without_start = counts.without_start.saturating_add(ends);
+                counts.lost_starts = counts.lost_starts.saturating_add(ends);
             } else {
                 counts.devices_without_starts = counts.devices_without_starts.saturating_add(1);
                 counts.requests_without_starts = counts

@@ -5,9 +5,9 @@ ghost use Rattle.std.specs.BTreeMap.{keys, values};
 ghost use Rattle.capture_file.specs.declared.attempt.Attempt.{Attempt};
 ghost use Rattle.capture_file.specs.States.{is_waiting};
 ghost use Rattle.capture_file.specs.Attempts.{IsRising, ids, with_id, is_same_place, is_early_at, first_waiting};
-ghost use Rattle.capture_file.specs.Events.{AreBelow, add, added, after_arrival, arrival_of, started_before, waiting_behind, with_next, after_merge_back, after_merge_front, behind_of, after_start, started, after_put_back, put_back, after_completion, ending_of, after_tagging, after_forgetting};
+ghost use Rattle.capture_file.specs.Events.{AreBelow, add, added, after_arrival, arrival_of, started_before, waiting_behind, with_next, after_merge_back, after_merge_front, behind_of, after_start, started, after_issue, issued, after_put_back, put_back, after_completion, ending_of, after_tagging, after_forgetting};
 
-use crate::attempt::{Arrival, Attempt, Place, State, Tag};
+use crate::attempt::{Arrival, Attempt, NOTHING, Place, Sent, State, Tag};
 use crate::table::Table;
 use std::alloc::{AllocError, Global};
 use std::collections::BTreeMap;
@@ -34,8 +34,8 @@ pub enum Ending {
 }
 
 /// The requests of block devices, attempt by attempt. Events come in the order of their times, and each speaks of a place: a
-/// device and a first sector. A start is of the one that waited longest there, and a completion of the one that was started
-/// longest ago. A call takes a time that grows as the logarithm of the number of attempts.
+/// device and a first sector. A start is of the one that waited longest there, and a completion of the newest in flight there that
+/// has its kind and size, since an older one may have lost its own. A call takes a time that grows as the logarithm of the number of attempts.
 #[derive(Drop)]
 pub struct Requests {
     skew: u64,
@@ -101,7 +101,7 @@ impl Requests {
             return Ok(Came::Started(early.id));
         }
         let arrival = Some(Arrival { time, tag });
-        let attempt = self.add(place, arrival, State::Waiting)?;
+        let attempt = self.add(place, NOTHING, arrival, State::Waiting)?;
         Ok(Came::New(attempt.id))
     }
 
@@ -143,41 +143,67 @@ impl Requests {
         Ok(Some(joined))
     }
 
-    /// The one that waited longest at the place is started. If none waits there, one whose arrival wasn't seen is, but for a
-    /// flush. Answers how it is now.
+    /// The one that waited longest at the place is started. If none waits there, one whose arrival wasn't seen is. Answers how it is
+    /// now.
     ///
     /// # Errors
     ///
     /// `AllocError` if no memory is left, or no id.
-    pub fn start(&mut self, place: Place, time: u64) -> Result<Option<Attempt>, AllocError>
-        ensures answer { IfOk result (λ answer. answer ≡ started place time self.old) }
-        ensures ok { OnOk result (self.new ≡ after_start place time self.old) }
+    pub fn start(&mut self, place: Place, sent: Sent, time: u64) -> Result<Attempt, AllocError>
+        ensures answer { IfOk result (λ answer. answer ≡ started place sent time self.old) }
+        ensures ok { OnOk result (self.new ≡ after_start place sent time self.old) }
         ensures err { OnErr result (self.new ≡ self.old) }
     {
         let state = State::InFlight { start: time };
         let Some(before) = self.table.first_waiting(place) else {
-            if place.sector.is_none() {
-                return Ok(None);
-            }
-            return Ok(Some(self.add(place, None, state)?));
+            return self.add(place, sent, None, state);
         };
-        let attempt = Attempt { state, ..before };
+        let attempt = Attempt {
+            sent,
+            state,
+            ..before
+        };
         self.table.replace(before, attempt)?;
-        Ok(Some(attempt))
+        Ok(attempt)
     }
 
-    /// The one that was started longest ago at the place is put back. Its next attempt arrives then, with the same tag, unless
-    /// its own arrival wasn't seen. Answers how it is now.
+    /// The block layer issues what nobody queued, such as a flush: it arrives when it is issued. Answers how it is now.
     ///
     /// # Errors
     ///
     /// `AllocError` if no memory is left, or no id.
-    pub fn put_back(&mut self, place: Place, time: u64) -> Result<Option<Attempt>, AllocError>
-        ensures answer { IfOk result (λ answer. answer ≡ put_back place time self.old) }
-        ensures ok { OnOk result (self.new ≡ after_put_back place time self.old) }
+    pub fn issue(
+        &mut self,
+        place: Place,
+        sent: Sent,
+        time: u64,
+        tag: Tag,
+    ) -> Result<Attempt, AllocError>
+        ensures answer { IfOk result (λ answer. answer ≡ issued place sent time tag self.old) }
+        ensures ok { OnOk result (self.new ≡ after_issue place sent time tag self.old) }
         ensures err { OnErr result (self.new ≡ self.old) }
     {
-        let Some(before) = self.table.first_in_flight(place) else {
+        let state = State::InFlight { start: time };
+        self.add(place, sent, Some(Arrival { time, tag }), state)
+    }
+
+    /// The newest in flight at the place that has this kind and size is put back; if its arrival wasn't seen, neither is asked. Its
+    /// next attempt arrives then, with the same tag, unless its own arrival wasn't seen, or it has no sector. Answers how it is now.
+    ///
+    /// # Errors
+    ///
+    /// `AllocError` if no memory is left, or no id.
+    pub fn put_back(
+        &mut self,
+        place: Place,
+        sent: Sent,
+        time: u64,
+    ) -> Result<Option<Attempt>, AllocError>
+        ensures answer { IfOk result (λ answer. answer ≡ put_back place sent time self.old) }
+        ensures ok { OnOk result (self.new ≡ after_put_back place sent time self.old) }
+        ensures err { OnErr result (self.new ≡ self.old) }
+    {
+        let Some(before) = self.table.newest_at(place, sent) else {
             return Ok(None);
         };
         self.add_next(&before, time)?;
@@ -188,13 +214,13 @@ impl Requests {
         Ok(Some(attempt))
     }
 
-    /// The one that was started longest ago at the place is completed. If none is in flight there, the one that waited longest
-    /// there is gone: it ended without a start.
-    pub fn complete(&mut self, place: Place, time: u64) -> Ending
-        ensures answer { result ≡ ending_of place time self.old }
-        ensures new { self.new ≡ after_completion place time self.old }
+    /// The newest in flight at the place that has this kind and size is completed; if its arrival wasn't seen, neither is asked. If
+    /// there is none, the one that waited longest there is gone: it ended without a start.
+    pub fn complete(&mut self, place: Place, sent: Sent, time: u64) -> Ending
+        ensures answer { result ≡ ending_of place sent time self.old }
+        ensures new { self.new ≡ after_completion place sent time self.old }
     {
-        let Some(before) = self.table.first_in_flight(place) else {
+        let Some(before) = self.table.newest_at(place, sent) else {
             return match self.merge_back(place) {
                 Some(gone) => Ending::NeverStarted(gone),
                 None => Ending::Unknown,
@@ -249,14 +275,16 @@ impl Requests {
         self.table.first_waiting(behind)
     }
 
-    // Adds the attempt that comes after one that is put back then, if the arrival of that one is known.
+    // Adds the attempt that comes after one that is put back then, if the arrival of that one is known, and it has a sector.
     fn add_next(&mut self, before: &Attempt, time: u64) -> Result<(), AllocError>
         ensures ok { OnOk result (self.new ≡ with_next before.now.place time before.now.arrival self.old) }
         ensures err { OnErr result (self.new ≡ self.old) }
     {
         if let Some(Arrival { tag, .. }) = before.arrival {
-            let arrival = Some(Arrival { time, tag });
-            self.add(before.place, arrival, State::Waiting)?;
+            if before.place.sector.is_some() {
+                let arrival = Some(Arrival { time, tag });
+                self.add(before.place, NOTHING, arrival, State::Waiting)?;
+            }
         }
         Ok(())
     }
@@ -265,11 +293,12 @@ impl Requests {
     fn add(
         &mut self,
         place: Place,
+        sent: Sent,
         arrival: Option<Arrival>,
         state: State,
     ) -> Result<Attempt, AllocError>
-        ensures answer { IfOk result (λ attempt. attempt ≡ added place arrival state self.old) }
-        ensures ok { OnOk result (self.new ≡ add place arrival state self.old) }
+        ensures answer { IfOk result (λ attempt. attempt ≡ added place sent arrival state self.old) }
+        ensures ok { OnOk result (self.new ≡ add place sent arrival state self.old) }
         ensures err { OnErr result (self.new ≡ self.old) }
     {
         let Some(next) = self.next.checked_add(1) else {
@@ -278,6 +307,7 @@ impl Requests {
         let attempt = Attempt {
             id: self.next,
             place,
+            sent,
             arrival,
             state,
         };

@@ -2,13 +2,14 @@
 
 use crate::captured::{Capture, Counts};
 use crate::event_reader::EventReader;
+use crate::flights::Started;
 use crate::line_fault::LineFault;
 use crate::line_reader::LineReader;
 use crate::table_reader::TableReader;
-use capture::{DeviceFlight, TimedRequest};
+use capture::TimedRequest;
 use capture_windows::{Attempt, TimeSpan};
-use slots::{End, Flight};
-use std::alloc::{AllocError, Global};
+use slots::End;
+use std::alloc::AllocError;
 
 /// A reader of a capture from which attempts can be taken while it is read, if its lines are in the order of time but for a second: what
 /// happened up to a second before the last line is known then.
@@ -19,15 +20,15 @@ pub enum SortedReader<'a> {
 }
 
 impl SortedReader<'_> {
-    /// What was read.
+    /// What was read. A device has the slots that `depths` gives it by its name.
     ///
     /// # Errors
     ///
     /// `MissingColumn` if a table had no header, `TooManyDevices` if more than 32 devices have requests, `OutOfMemory` if no memory is left.
-    pub fn finish(self) -> Result<Capture, LineFault> {
+    pub fn finish(self, depths: &[(String, u32)]) -> Result<Capture, LineFault> {
         match self {
-            SortedReader::Events(reader) => reader.finish(),
-            SortedReader::Table(reader) => reader.finish(),
+            SortedReader::Events(reader) => reader.finish(depths),
+            SortedReader::Table(reader) => reader.finish(depths),
         }
     }
 
@@ -111,23 +112,11 @@ impl LineReader for SortedReader<'_> {
     }
 }
 
-/// The requests among attempts, and what held a slot.
-pub fn requests_and_flights(
-    alloc: Global,
-    attempts: &[Attempt],
-) -> Result<(Vec<TimedRequest>, Vec<DeviceFlight>), AllocError> {
-    let (mut requests, mut flights) = (Vec::new(alloc), Vec::new(alloc));
-    for attempt in attempts {
-        push_parts(attempt, &mut requests, &mut flights)?;
-    }
-    Ok((requests, flights))
-}
-
-/// Adds an attempt's request if it is taken, and its flight if it held a slot.
+/// Adds an attempt's request if it is taken, and its flight if it was started.
 pub fn push_parts(
     attempt: &Attempt,
     requests: &mut Vec<TimedRequest>,
-    flights: &mut Vec<DeviceFlight>,
+    started: &mut Vec<Started>,
 ) -> Result<(), AllocError> {
     let request = attempt.request;
     if attempt.is_taken {
@@ -141,9 +130,10 @@ pub fn push_parts(
             (None, Some(time)) => End::PutBack(time),
             (None, None) => End::Unknown,
         };
-        flights.push(DeviceFlight {
+        started.push(Started {
             device: request.device,
-            flight: Flight { start, end },
+            start,
+            end,
         })?;
     }
     Ok(())

@@ -1,40 +1,71 @@
 //! Where attempts that haven't ended are found.
 
 ghost use Rattle.std.specs.Prelude.{◌≡◌, true, false};
-ghost use Rattle.capture_file.specs.Spots.{spot_of};
+ghost use Rattle.capture_file.specs.Spots.{spot_of, waiting, early_at, flying};
 
-use crate::attempt::{Attempt, Place, State};
+use crate::attempt::{Attempt, Place, Sent, State};
 
-/// Attempts of a place: those that wait there, those in flight whose arrivals are known, or those in flight whose arrivals
-/// weren't seen.
+/// Those that wait at a place, those in flight there whose arrivals weren't seen, or those of a kind whose arrivals are known.
 #[derive(Clone, Copy, PartialEq, Eq, PartialOrd, Ord)]
-pub(crate) struct Queue {
+pub(crate) struct Lane {
     pub place: Place,
     pub in_flight: bool,
     /// The arrivals weren't seen.
     pub early: bool,
+    /// 0 unless they are in flight and their arrivals are known.
+    pub kind: u8,
+}
+
+/// Attempts of a lane that have one size: 0 unless they are in flight and their arrivals are known.
+#[derive(Clone, Copy, PartialEq, Eq, PartialOrd, Ord)]
+pub(crate) struct Queue {
+    pub lane: Lane,
+    pub size: u64,
 }
 
 impl Queue {
     /// Those that wait at a place.
     pub(crate) fn waiting(place: Place) -> Queue
-        ensures { result ≡ record { place = place; in_flight = false; early = false } }
+        ensures { result ≡ waiting place }
     {
         Queue {
-            place,
-            in_flight: false,
-            early: false,
+            lane: Lane {
+                place,
+                in_flight: false,
+                early: false,
+                kind: 0,
+            },
+            size: 0,
         }
     }
 
-    /// Those in flight there. With `early` their arrivals weren't seen.
-    pub(crate) fn in_flight(place: Place, early: bool) -> Queue
-        ensures { result ≡ record { place = place; in_flight = true; early = early } }
+    /// Those in flight there whose arrivals weren't seen.
+    pub(crate) fn early(place: Place) -> Queue
+        ensures { result ≡ early_at place }
     {
         Queue {
-            place,
-            in_flight: true,
-            early,
+            lane: Lane {
+                place,
+                in_flight: true,
+                early: true,
+                kind: 0,
+            },
+            size: 0,
+        }
+    }
+
+    /// Those in flight there whose arrivals are known, of that kind and size.
+    pub(crate) fn flying(place: Place, sent: Sent) -> Queue
+        ensures { result ≡ flying place sent }
+    {
+        Queue {
+            lane: Lane {
+                place,
+                in_flight: true,
+                early: false,
+                kind: sent.kind,
+            },
+            size: u64::from(sent.size),
         }
     }
 }
@@ -54,7 +85,8 @@ pub(crate) fn spot_of(attempt: &Attempt) -> Option<Spot>
 {
     let queue = match attempt.state {
         State::Waiting => Queue::waiting(attempt.place),
-        State::InFlight { .. } => Queue::in_flight(attempt.place, attempt.arrival.is_none()),
+        State::InFlight { .. } if attempt.arrival.is_none() => Queue::early(attempt.place),
+        State::InFlight { .. } => Queue::flying(attempt.place, attempt.sent),
         State::Completed { .. } | State::PutBack { .. } => return None,
     };
     Some(Spot {

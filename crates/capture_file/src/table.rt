@@ -6,13 +6,13 @@ ghost use Rattle.std.specs.BTreeMap.{keys, values};
 ghost use Rattle.std.specs.BTreeSet.{contains};
 ghost use Rattle.capture_file.specs.declared.attempt.Attempt.{Attempt};
 ghost use Rattle.capture_file.specs.declared.spot.Spot.{Spot};
-ghost use Rattle.capture_file.specs.Attempts.{IsRising, ids, with_id, put, without, waits_at, is_early_at, first_waiting, first_in_flight, first_early};
+ghost use Rattle.capture_file.specs.Attempts.{IsRising, ids, with_id, put, without, waits_at, is_early_at, first_waiting, newest_at, first_early};
 ghost use Rattle.capture_file.specs.Events.{retagged, tagged};
-ghost use Rattle.capture_file.specs.Spots.{spot_of, spot_cmp, is_at_spot, first_at, earlier_of, AreApart};
+ghost use Rattle.capture_file.specs.Spots.{spot_of, spot_cmp, is_at_spot, first_at, last_at, later_of, AreApart};
 
-use crate::attempt::{Arrival, Attempt, Place, Tag};
+use crate::attempt::{Arrival, Attempt, Place, Sent, Tag};
 use crate::by_id::ById;
-use crate::spot::{Queue, Spot, spot_of};
+use crate::spot::{Lane, Queue, Spot, spot_of};
 use std::alloc::{AllocError, Global};
 use std::collections::{BTreeMap, BTreeSet};
 use std::marker::Model;
@@ -72,14 +72,14 @@ impl Table {
         self.first_at(Queue::waiting(place), 0)
     }
 
-    /// The one that was started longest ago at a place, of those in flight there.
-    pub(crate) fn first_in_flight(&self, place: Place) -> Option<Attempt>
-        ensures first { result ≡ first_in_flight place self.now }
+    /// The newest in flight at a place that fits: of that kind and size, or one whose arrival wasn't seen.
+    pub(crate) fn newest_at(&self, place: Place, sent: Sent) -> Option<Attempt>
+        ensures newest { result ≡ newest_at place sent self.now }
         ensures at { IfSome result (λ a. with_id a.id self.now ≡ Some a) }
     {
-        let seen = self.first_at(Queue::in_flight(place, false), 0);
-        let early = self.first_at(Queue::in_flight(place, true), 0);
-        earlier_of(seen, early)
+        let seen = self.last_at(Queue::flying(place, sent).lane, sent.size);
+        let early = self.last_at(Queue::early(place).lane, 0);
+        later_of(seen, early)
     }
 
     /// The one that was started longest ago at a place, of those in flight whose arrival wasn't seen, but not before a time.
@@ -88,7 +88,7 @@ impl Table {
         ensures at { IfSome result (λ a. with_id a.id self.now ≡ Some a) }
         ensures passes { IfSome result (λ a. is_early_at place from a ≡ true) }
     {
-        self.first_at(Queue::in_flight(place, true), from)
+        self.first_at(Queue::early(place), from)
     }
 
     // The first one in a queue that wasn't started before a time.
@@ -105,6 +105,29 @@ impl Table {
         if spot.queue != queue {
             return None;
         }
+        self.by_id.get(spot.id)
+    }
+
+    // The last one of a lane that has this size.
+    fn last_at(&self, lane: Lane, size: u32) -> Option<Attempt>
+        ensures last { result ≡ last_at (record { lane = lane; size = size }) self.now }
+        ensures rising { IsRising self.now }
+    {
+        let size = size as u64;
+        let first = Spot {
+            queue: Queue { lane, size },
+            start: 0,
+            id: 0,
+        };
+        let next = Spot {
+            queue: Queue {
+                lane,
+                size: size + 1,
+            },
+            start: 0,
+            id: 0,
+        };
+        let spot = self.spots.range(first..next).next_back()?;
         self.by_id.get(spot.id)
     }
 
@@ -168,15 +191,15 @@ impl Table {
     }
 }
 
-// Of the firsts of two queues the one that was started first; of equal ones the one that came first.
-fn earlier_of(one: Option<Attempt>, other: Option<Attempt>) -> Option<Attempt>
-    ensures { result ≡ earlier_of one other }
+// Of the lasts of two queues the one that was started last; of equal ones the one that came last.
+fn later_of(one: Option<Attempt>, other: Option<Attempt>) -> Option<Attempt>
+    ensures { result ≡ later_of one other }
 {
     let (Some(first), Some(second)) = (one, other) else {
         return one.or(other);
     };
     let key = (first.state.start(), first.id);
-    if (second.state.start(), second.id) < key {
+    if key < (second.state.start(), second.id) {
         other
     } else {
         one

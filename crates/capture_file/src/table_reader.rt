@@ -4,15 +4,18 @@ use crate::biosnoop_row::biosnoop_row;
 use crate::captured::{Capture, Counts};
 use crate::columns::{Columns, columns_of, other_columns};
 use crate::csv_row::csv_row;
-use crate::finishing::{Drivers, capture_of};
+use crate::finishing::{Drivers, Flown, capture_of, names_text};
+use crate::flights::Times;
 use crate::line_fault::LineFault;
+use crate::lost_events::lost_in;
 use crate::names::Names;
 use crate::options::{CsvTimeUnit, Options, Priorities, SLACK};
 use crate::priority::{USUAL, flags_priority};
 use crate::quotes::are_quotes_whole;
 use crate::row::Row;
 use crate::sizes::Sizes;
-use crate::sorted_reader::requests_and_flights;
+use crate::sorted_reader::push_parts;
+use crate::tenants::Tenants;
 use capture::TimedRequest;
 use capture_windows::Attempt;
 use csv::{ByteRecord, ReaderBuilder};
@@ -48,8 +51,12 @@ pub struct TableReader<'a> {
     pub(crate) drivers: Drivers,
     pub(crate) attempts: Vec<Attempt>,
     sizes: Sizes,
+    others: Names,
+    tenants: Tenants,
     // The latest arrival.
     pub(crate) time: u64,
+    // The first arrival, and the latest time.
+    times: Option<Times>,
     pub(crate) counts: Counts,
 }
 
@@ -66,34 +73,49 @@ impl<'a> TableReader<'a> {
             drivers: Drivers::new(alloc),
             attempts: Vec::new(alloc),
             sizes: Sizes::new(alloc),
+            others: Names::new(alloc),
+            tenants: Tenants::new(alloc),
             time: 0,
+            times: None,
             counts: Counts::default(),
         }
     }
 
-    /// What was read.
+    /// What was read. A device has the slots that `depths` gives it by its name.
     ///
     /// # Errors
     ///
     /// `MissingColumn` if there was no header, `TooManyDevices` if more than 32 devices have requests, `OutOfMemory` if no memory
     /// is left.
-    pub fn finish(self) -> Result<Capture, LineFault> {
+    pub fn finish(self, depths: &[(String, u32)]) -> Result<Capture, LineFault> {
         if self.columns.is_none() && self.form != TableForm::Biosnoop {
             return Err(LineFault::MissingColumn);
         }
-        let (requests, flights) = requests_and_flights(self.alloc, &self.attempts)?;
+        let (mut requests, mut started) = (Vec::new(self.alloc), Vec::new(self.alloc));
+        for attempt in &self.attempts {
+            push_parts(attempt, &mut requests, &mut started)?;
+        }
+        let mut counts = self.counts;
+        counts.has_processes = self.tenants.are_several();
+        let flown = Flown {
+            times: self.times.unwrap_or(Times { begin: 0, end: 0 }),
+            depths,
+            started,
+            unstarted: Vec::new(self.alloc),
+        };
         let capture = capture_of(
             self.alloc,
             self.options,
             requests,
-            flights,
+            Some(&flown),
             self.devices.list(),
             self.drivers.list(),
             &self.sizes,
-            self.counts,
+            counts,
         )?;
         Ok(Capture {
             other_columns: self.other_columns,
+            others: names_text(self.alloc, self.others.list())?,
             ..capture
         })
     }
@@ -136,19 +158,40 @@ impl<'a> TableReader<'a> {
             Some(device) => self.add(row, device),
             None => {
                 self.counts.other_devices = self.counts.other_devices.saturating_add(1);
-                Ok(())
+                Ok(self.others.note(row.device)?)
             }
         }
+    }
+
+    // The times of what is read are from the first arrival to the latest time.
+    fn note_times(&mut self, row: &Row<'_>, arrival: u64) {
+        let latest = row
+            .completed
+            .unwrap_or(0)
+            .max(row.started.unwrap_or(0))
+            .max(arrival);
+        self.times = Some(match self.times {
+            None => Times {
+                begin: arrival,
+                end: latest,
+            },
+            Some(Times { begin, end }) => Times {
+                begin: begin.min(arrival),
+                end: end.max(latest),
+            },
+        });
     }
 
     fn add(&mut self, row: Row<'_>, device: &[u8]) -> Result<(), LineFault> {
         let arrival = row
             .started
             .map_or(row.arrival, |start| start.min(row.arrival));
+        self.note_times(&row, arrival);
         // What arrives at other times is left out, and so are its drivers.
         let is_in_time = self.options.takes_time(arrival);
         let is_taken = row.has_arrival && is_in_time;
         let (driver, own) = if is_taken {
+            self.tenants.note(row.pid)?;
             self.drivers
                 .number(self.options, row.driver_by(self.options.driver_by))?
         } else {
@@ -200,6 +243,9 @@ impl<'a> TableReader<'a> {
         self.counts.lines = self.counts.lines.saturating_add(1);
         if line.trim_ascii().is_empty() {
             return Ok(());
+        }
+        if let Some(lost) = lost_in(line) {
+            return Ok(self.counts.count_lost(lost));
         }
         match self.form {
             TableForm::Csv(unit) => self.take_csv(unit, line),

@@ -115,9 +115,9 @@ fn request_of<'a>(
     let (sectors, text) = numbered(text, Field::Sectors)?;
     let process = bracketed(text).ok_or(LineFault::NotAnEvent)?;
     let extent = if is_command || sectors == 0 && bytes > 0 {
-        Extent::Command
+        Extent::None(None)
     } else if sectors == 0 {
-        Extent::Flush
+        Extent::None(Some(sector))
     } else {
         Extent::Sectors(sector, sectors)
     };

@@ -40,15 +40,16 @@ pub fn bracketed(text: &[u8]) -> Option<&[u8]> {
 pub fn device_word(text: &[u8]) -> Result<(&[u8], &[u8]), LineFault> {
     let (device, rest) = next_word(text).ok_or(LineFault::NotAnEvent)?;
     match device_numbers(device) {
-        None => Err(LineFault::NotAnEvent),
-        Some(_) => Ok((device, rest)),
+        Some(_) if device.contains(&b',') => Ok((device, rest)),
+        _ => Err(LineFault::NotAnEvent),
     }
 }
 
-fn device_numbers(text: &[u8]) -> Option<(u64, u64)> {
-    let comma = text.iter().position(|byte| *byte == b',')?;
-    let major = number(text.get(..comma)?)?;
-    let minor = number(text.get(comma..)?.get(1..)?)?;
+/// The major and minor number of a device, as `8,16` or `8:16`.
+pub fn device_numbers(text: &[u8]) -> Option<(u64, u64)> {
+    let between = text.iter().position(|byte| *byte == b',' || *byte == b':')?;
+    let major = number(text.get(..between)?)?;
+    let minor = number(text.get(between..)?.get(1..)?)?;
     Some((major, minor))
 }
 

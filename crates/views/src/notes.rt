@@ -2,7 +2,6 @@
 //! refused the command whose turn it was.
 
 pub use report_lines::report_note;
-pub use shown::{shown_lines, shown_name};
 pub use trace_records::{recording_note, trace_note, unsent_note};
 
 mod bad_record;

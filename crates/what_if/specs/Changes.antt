@@ -1,5 +1,5 @@
 -- changes of a net: more openings for a device, an adapter or a link
-use Rattle.std.specs.Prelude.{ℕ, ◌+◌, ◌*◌, ◌==◌, ◌<◌, ◌≤◌, min, max, if◌then◌else◌}
+use Rattle.std.specs.Prelude.{ℕ, ◌+◌, ◌*◌, ◌==◌, ◌<◌, ◌≤◌, Bool, true, nat_lt, nat_le, ◌&&◌, min, max, if◌then◌else◌, List, filter}
 use Rattle.cam_types.specs.Topology.{Topology}
 use Rattle.cam_types.specs.Questions.{device_openings, adapter_openings, link_openings}
 use Rattle.round_net.specs.Instance.{Instance, adapter_resource, link_resource}
@@ -46,3 +46,28 @@ openings_of c (Link l) = link_openings c l
 pub record IsChangeOf (net : Instance) (change : Change) : Type 0 where
   pub resource : IsResourceOf net change.resource
   pub number : HasNumber change.widening
+
+-- whether it is a device, an adapter or a link of the net
+abbrev pub is_resource_of : Instance → Resource → Bool
+is_resource_of net (Device d) = nat_lt d net.devices
+is_resource_of net (Adapter a) = nat_lt a net.adapters
+is_resource_of net (Link l) = nat_lt l net.links
+
+-- whether a number is from 1 to the most that a row takes in a round
+abbrev pub may_be : ℕ → Bool
+may_be n = nat_le 1 n && nat_le n MAX_CAP
+
+-- whether a widening has such a number, or needs none
+abbrev pub has_number : Widening → Bool
+has_number (More n) = may_be n
+has_number (Times n) = may_be n
+has_number (AtLeast n) = may_be n
+has_number NeverStopped = true
+
+-- whether it is a change of the net: a resource of the net, and a number that may be
+abbrev pub is_change : Instance → Change → Bool
+is_change net change = is_resource_of net change.resource && has_number change.widening
+
+-- those of a list that are changes of the net, in order
+abbrev pub changes_in : Instance → List Change → List Change
+changes_in net changes = filter (is_change net) changes

@@ -1,8 +1,8 @@
 -- what the waiting costs by each order, as it was and with more openings
-use Rattle.std.specs.Prelude.{◌≡◌, ℕ, ◌+◌, ◌<◌, All, List, length, slice_index_or, Option, Some, None, Vec}
+use Rattle.std.specs.Prelude.{◌≡◌, ℕ, ◌+◌, ◌<◌, All, List, [], ◌∷◌, length, slice_index_or, map, Option, Some, None, Vec}
 use Rattle.std.specs.Global.{Global}
 use Rattle.what_if.specs.Caps.{changed_net}
-use Rattle.what_if.specs.Changes.{IsChangeOf}
+use Rattle.what_if.specs.Changes.{IsChangeOf, changes_in}
 use Rattle.what_if.specs.declared.change.Change.{Change}
 use Rattle.orders.specs.Orders.{IsOrdered, unsent, late}
 use Rattle.orders.specs.declared.order.Order.{Order}
@@ -44,6 +44,14 @@ pub record AreCosts (net : Instance) (c : Costs) : Type 0 where
 -- each list has changes of the net
 abbrev pub AreChanges : Instance → List (Vec Change Global) → Type 0
 AreChanges net lists = All (λ (list : Vec Change Global). All (IsChangeOf net) list.items) lists
+
+-- the changes of each list
+abbrev pub changes_of_each : List (Vec Change Global) → List (List Change)
+changes_of_each lists = map (λ (list : Vec Change Global). list.items) lists
+
+-- no change at first, and then of each list those that are changes of the net, in order
+abbrev pub lists_in : Instance → List (Vec Change Global) → List (List Change)
+lists_in net wanted = [] ∷ map (λ (list : Vec Change Global). changes_in net list.items) wanted
 
 -- the costs in the net with the changes of the list of a number
 abbrev pub IsRowAt : NetRows → List (Vec Change Global) → ℕ → Costs → Type 0

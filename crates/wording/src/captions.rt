@@ -1,5 +1,6 @@
 //! What adapters, devices, drivers, links and run levels are called.
 
+use crate::shown::shown_name;
 use cam_path::path_name;
 use cam_types::Config;
 use recording_file::{Name, NameKind};
@@ -35,21 +36,31 @@ impl<'a> Captions<'a> {
         if self.names.is_empty() { 14 } else { MOST }
     }
 
-    /// The adapter, device, driver or run level of this number, in words, as `driver 3 database`: at most 26 characters.
+    /// The adapter, device, driver or run level of this number as it is shown, in words, as `driver 3 database`: at most 26 characters.
     pub fn caption(self, alloc: Global, by: Grouping, number: u32) -> Result<String, AllocError> {
+        shortened(alloc, &self.words(alloc, by, number)?)
+    }
+
+    /// The same for JSON, with all characters of its name as they are.
+    pub fn label(self, alloc: Global, by: Grouping, number: u32) -> Result<String, AllocError> {
+        cut(alloc, self.words(alloc, by, number)?)
+    }
+
+    // The same in full.
+    fn words(self, alloc: Global, by: Grouping, number: u32) -> Result<String, AllocError> {
         let (word, name) = (word_of(by), self.name_by(by, number));
         let shown = match by {
             Grouping::Device => path_name(alloc, self.config, number)?,
             _ => format!(in alloc; "{number}")?,
         };
         match name {
-            Some(name) => shortened(alloc, &format!(in alloc; "{word} {shown} {name}")?),
-            None => shortened(alloc, &format!(in alloc; "{word} {shown}")?),
+            Some(name) => format!(in alloc; "{word} {shown} {name}"),
+            None => format!(in alloc; "{word} {shown}"),
         }
     }
 
-    /// The adapter, device or driver of this number by its name alone, as `driver database`, or as `caption` does if it has none:
-    /// at most 26 characters.
+    /// The adapter, device or driver of this number as it is shown by its name alone, as `driver database`, or as `caption` does if it
+    /// has none: at most 26 characters.
     pub fn by_name(self, alloc: Global, by: Grouping, number: u32) -> Result<String, AllocError> {
         match self.name_by(by, number) {
             Some(name) => shortened(alloc, &format!(in alloc; "{} {name}", word_of(by))?),
@@ -57,11 +68,11 @@ impl<'a> Captions<'a> {
         }
     }
 
-    /// The device's path, and its name if it has one.
+    /// The device's path, and its name as it is shown if it has one.
     pub fn device(self, alloc: Global, device: u32) -> Result<String, AllocError> {
         let path = path_name(alloc, self.config, device)?;
         match self.name(NameKind::Device, device) {
-            Some(name) => format!(in alloc; "{path} {name}"),
+            Some(name) => format!(in alloc; "{path} {}", shown_name(alloc, name)?),
             None => Ok(path),
         }
     }
@@ -97,10 +108,15 @@ fn word_of(by: Grouping) -> &'static str {
     }
 }
 
-/// The text itself, or its beginning and an ellipsis where it has more than 26 characters.
+/// The text as it is shown, or the beginning of that and an ellipsis where it has more than 26 characters.
 pub fn shortened(alloc: Global, text: &str) -> Result<String, AllocError> {
+    cut(alloc, shown_name(alloc, text)?)
+}
+
+// The text itself, or its beginning and an ellipsis where it has more than 26 characters.
+fn cut(alloc: Global, text: String) -> Result<String, AllocError> {
     if text.chars().count() <= MOST {
-        return String::from_str(alloc, text);
+        return Ok(text);
     }
     let mut short = String::new(alloc);
     for letter in text.chars().take(MOST - 1) {

@@ -1,5 +1,6 @@
 //! The page as it is made.
 
+use crate::shown::is_hidden;
 use std::alloc::{AllocError, Global};
 use std::fmt::Display;
 
@@ -32,9 +33,15 @@ impl Page {
         self.is_short = self.is_short || self.text.push_str(words).is_err();
     }
 
-    // Puts a letter on the page.
+    // Puts a letter on the page, or Rust's escape of it if it is hidden.
     fn letter(&mut self, letter: char) {
-        self.is_short = self.is_short || self.text.push(letter).is_err();
+        if is_hidden(letter) {
+            for escaped in letter.escape_default() {
+                self.is_short = self.is_short || self.text.push(escaped).is_err();
+            }
+        } else {
+            self.is_short = self.is_short || self.text.push(letter).is_err();
+        }
     }
 
     /// Puts what this shows on the page.
@@ -58,8 +65,14 @@ impl Page {
         self.put(end);
     }
 
-    /// Puts words that may hold anything on the page: what XML keeps for itself is escaped, and characters that it doesn't
-    /// allow are left out.
+    /// Puts words that may hold anything on the page: hidden characters as Rust escapes them.
+    pub fn shown(&mut self, words: &str) {
+        for letter in words.chars() {
+            self.letter(letter);
+        }
+    }
+
+    /// The same for a page of XML: what that keeps for itself is escaped, and characters that it doesn't allow are left out.
     pub fn escaped(&mut self, words: &str) {
         for letter in words.chars() {
             match letter {

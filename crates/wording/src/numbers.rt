@@ -61,6 +61,27 @@ pub fn push_share(page: &mut Page, part: u64, whole: u64) {
     page.show(format_args!("{}.{} %", tenths / 10, tenths % 10));
 }
 
+/// Puts the share of a part in a whole on the page, in percent: from 10 on to a whole number, from 1 on to a tenth, and below that to
+/// the first digit that counts; of all above 0 at least 0.001.
+pub fn push_rough_share(page: &mut Page, part: u64, whole: u128) {
+    // In thousandths of a percent, as is the step to which it is rounded.
+    let share = u128::from(part).saturating_mul(100_000);
+    let step = match share.checked_div(whole) {
+        Some(10_000..) => 1_000,
+        Some(100..) => 100,
+        Some(10..) => 10,
+        _ => 1,
+    };
+    let each = whole.saturating_mul(step);
+    let steps = share
+        .saturating_add(each / 2)
+        .checked_div(each)
+        .unwrap_or(0)
+        .max(u128::from(part > 0));
+    push_thousandths(page, steps.saturating_mul(step));
+    page.put(" %");
+}
+
 /// Puts how long that many rounds are on the page, in brackets, if it is known how long one is.
 pub fn push_time(page: &mut Page, unit: Option<Span>, rounds: u64) {
     if let Some(span) = unit {
@@ -139,14 +160,21 @@ pub fn nanoseconds(span: Span) -> u64 {
 
 // Puts that many hundredths on the page as a decimal number, with its unit.
 fn push_hundredths(page: &mut Page, hundredths: u128, unit: &str) {
-    push_number(page, u64::try_from(hundredths / 100).unwrap_or(u64::MAX));
-    let rest = hundredths % 100;
-    if rest % 10 > 0 {
-        page.show(format_args!(".{rest:02}"));
-    } else if rest > 0 {
-        page.show(format_args!(".{}", rest / 10));
-    }
+    push_thousandths(page, hundredths.saturating_mul(10));
     page.put(unit);
+}
+
+// Puts that many thousandths on the page as a decimal number, without zeros at its end.
+fn push_thousandths(page: &mut Page, thousandths: u128) {
+    push_number(page, u64::try_from(thousandths / 1_000).unwrap_or(u64::MAX));
+    let rest = thousandths % 1_000;
+    if rest % 10 > 0 {
+        page.show(format_args!(".{rest:03}"));
+    } else if rest % 100 > 0 {
+        page.show(format_args!(".{:02}", rest / 10));
+    } else if rest > 0 {
+        page.show(format_args!(".{}", rest / 100));
+    }
 }
 
 /// Puts the number of a round on the page, with the time at which it ended.

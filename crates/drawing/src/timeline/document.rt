@@ -38,11 +38,11 @@ fn put_processes(
 ) -> Result<(), AllocError> {
     let captions = Captions::of(net.config(), explanation);
     for device in 0..net.devices() {
-        let caption = captions.caption(writer.alloc, Grouping::Device, device)?;
+        let caption = captions.label(writer.alloc, Grouping::Device, device)?;
         writer.process(device_process(device), &caption)?;
     }
     for adapter in 0..net.adapters() {
-        let caption = captions.caption(writer.alloc, Grouping::Adapter, adapter)?;
+        let caption = captions.label(writer.alloc, Grouping::Adapter, adapter)?;
         writer.process(adapter_process(net, adapter), &caption)?;
     }
     Ok(())

@@ -2,7 +2,7 @@
 
 use recording_file::Span;
 use std::alloc::{AllocError, Global};
-use wording::{Page, nanoseconds};
+use wording::{Page, is_hidden, nanoseconds};
 
 // How many nanoseconds a round is drawn whose length isn't known: a millisecond.
 const UNKNOWN: u64 = 1_000_000;
@@ -143,7 +143,7 @@ impl EventWriter {
     }
 }
 
-// The words as a string of JSON, whose control characters are all escaped: U+007F to U+009F too, which a terminal may obey.
+// The words as a string of JSON, whose hidden characters are all escaped: a terminal may obey them, also those that JSON allows.
 fn quoted(alloc: Global, words: &str) -> Result<String, AllocError> {
     let Ok(text) = serde_json::to_string(alloc, &words) else {
         return Err(AllocError);
@@ -153,8 +153,10 @@ fn quoted(alloc: Global, words: &str) -> Result<String, AllocError> {
     }
     let mut quoted = String::new(alloc);
     for letter in text.chars() {
-        if letter.is_control() {
-            write!(quoted, "\\u{:04x}", u32::from(letter))?;
+        if is_hidden(letter) {
+            for unit in letter.encode_utf16(&mut [0; 2]) {
+                write!(quoted, "\\u{unit:04x}")?;
+            }
         } else {
             quoted.push(letter)?;
         }

@@ -12,6 +12,7 @@ use crate::as_json::line::line;
 use crate::as_json::part::put_costs;
 use crate::as_json::row::put_tables;
 use crate::as_json::stays::put_stays;
+use crate::capture_facts::{CaptureFacts, put_facts};
 use crate::compared::Compared;
 use crate::limited::Limited;
 use crate::tables::tables_of;
@@ -21,7 +22,7 @@ use std::alloc::{AllocError, Global};
 use wait_causes::{BlameRow, Explanation, Freeze, Grouping, Part, Row, blame_of};
 
 // An input with what its stays waited: all, by the tables, and one by one, each with at most so many of its waits, if they are
-// listed.
+// listed; and how its capture was read, if that is known.
 #[derive(Drop)]
 struct Explained<'a> {
     alloc: Global,
@@ -32,6 +33,7 @@ struct Explained<'a> {
     limits: &'a [Limited<'a>],
     blame: Option<(Vec<BlameRow>, Vec<BlameRow>)>,
     max_waits: Option<usize>,
+    facts: Option<&'a CaptureFacts>,
 }
 
 impl Described for Explained<'_> {}
@@ -51,6 +53,9 @@ impl Serialize for Explained<'_> {
         if let Some(most) = self.max_waits {
             put_stays(out, self.alloc, self.input, most)?;
         }
+        if let Some(facts) = self.facts {
+            put_facts(out, facts)?;
+        }
         out.end_map()
     }
 }
@@ -58,8 +63,9 @@ impl Serialize for Explained<'_> {
 /// A line without its line feed: the counts of the net, how many nanoseconds a round has where that is known, what its live
 /// schedule and the other one cost in weighted rounds, the difference, and the live cost by cause and by what full rows sent; the
 /// tables by adapter, device, driver and run level; the freezes; how the limits were kept, if there are some; who waited for whom, if
-/// that is asked for; and, if they are asked for, all stays in creation order, each with
-/// its first waits, at most so many, and what the others cost together. Any text may be the name.
+/// that is asked for; if they are asked for, all stays in creation order, each with
+/// its first waits, at most so many, and what the others cost together; and how the capture was read, if that is known. Any text may
+/// be the name.
 pub fn explain_json(
     alloc: Global,
     trace: &str,
@@ -68,6 +74,7 @@ pub fn explain_json(
     limits: &[Limited<'_>],
     max_waits: Option<usize>,
     has_blame: bool,
+    facts: Option<&CaptureFacts>,
 ) -> Result<String, AllocError>
     ensures { IfOk result (λ s. string_bytes s ≡ print (tokens (string_bytes s))) }
 {
@@ -93,6 +100,7 @@ pub fn explain_json(
         limits,
         blame,
         max_waits,
+        facts,
     };
     line(alloc, &explained)
 }

@@ -5,7 +5,6 @@ use crate::compare::most::{push_most_cause, push_most_rows};
 use crate::compare::rows::push_rows;
 use crate::compare::totals::{push_causes, push_totals};
 use crate::compared::Compared;
-use crate::notes::shown_name;
 use crate::pair::Pair;
 use std::alloc::{AllocError, Global};
 use wait_causes::PairBy;
@@ -26,20 +25,19 @@ pub fn compare_page(
         after,
     };
     let mut page = Page::new(alloc);
-    push_names(alloc, &mut page, &pair)?;
+    push_names(&mut page, &pair);
     push_whole(alloc, &mut page, &pair)?;
     push_tables(alloc, &mut page, &pair)?;
     page.finish()
 }
 
 // Puts what the inputs are called on the page.
-fn push_names(alloc: Global, page: &mut Page, pair: &Pair<'_>) -> Result<(), AllocError> {
+fn push_names(page: &mut Page, pair: &Pair<'_>) {
     page.put("before  ");
-    page.put(&shown_name(alloc, pair.before.name)?);
+    page.shown(pair.before.name);
     page.put("\nafter   ");
-    page.put(&shown_name(alloc, pair.after.name)?);
+    page.shown(pair.after.name);
     page.put("\n");
-    Ok(())
 }
 
 // Puts what changed most of each table on the page, and the tables.

@@ -1,6 +1,5 @@
 //! The table of a sweep.
 
-use crate::notes::shown_name;
 use crate::swept::Swept;
 use crate::swept::title::{push_blank, push_openings, push_titles, titles};
 use std::alloc::{AllocError, Global};
@@ -29,7 +28,7 @@ const SPREADS: &str =
 pub fn sweep_page(alloc: Global, swept: Swept<'_>) -> Result<String, AllocError> {
     let mut page = Page::new(alloc);
     let (settings, seeds) = (swept.plan.settings(), swept.plan.seeds());
-    page.put(&shown_name(alloc, swept.name)?);
+    page.shown(swept.name);
     let titles = match settings.first() {
         Some(setting) => titles(alloc, swept.config, &setting.changes)?,
         None => Vec::new(alloc),

@@ -55,7 +55,7 @@ fn push_pair(page: &mut Page, captions: Captions<'_>, unit: Option<Span>, row: &
 // A driver by its name, or by this word and its number.
 fn push_driver(page: &mut Page, captions: Captions<'_>, word: &str, number: u32) {
     match captions.name_by(Grouping::Driver, number) {
-        Some(name) => page.put(name),
+        Some(name) => page.shown(name),
         None => page.show(format_args!("{word} {number}")),
     }
 }

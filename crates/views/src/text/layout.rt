@@ -1,6 +1,7 @@
 //! The page: what the waiting cost and why, and the stays that cost most.
 
 use crate::behind::behind_rows;
+use crate::capture_facts::{CaptureFacts, facts_warnings};
 use crate::limited::Limited;
 use crate::text::blame_table::{push_blame, push_worst_pair};
 use crate::text::columns::push_spelled;
@@ -27,7 +28,8 @@ use wording::{
 const NO_SAVING: &str =
     "\nWhat a cause cost isn't what would be saved without it: the same stays may then wait for another cause.\n";
 
-/// The page on an explanation: what the waiting cost, of a recording in its three parts, how these limits were kept, the weights if they aren't the standard ones,
+/// The page on an explanation: what to beware of, if it is known how the capture was read, what the waiting cost, of a recording in its
+/// three parts, how these limits were kept, the weights if they aren't the standard ones,
 /// the pair of drivers, the stay, the device and the freeze that cost most, the cost by cause and by what full rows sent, tables by adapter, device, driver and run level,
 /// percentiles of the waits of each run level as recorded, by weight if all are sent in time so, and in the best schedule, and at most `top`
 /// of the freezes and of the stays that cost most, these with the causes of their rounds, and who waited for whom, if that is asked for. Costs are weighted rounds;
@@ -41,12 +43,14 @@ pub fn page(
     has_times: bool,
     has_blame: bool,
     by_weight: Option<&ByWeight>,
+    facts: Option<&CaptureFacts>,
 ) -> Result<String, AllocError> {
     let mut page = Page::new(alloc);
+    push_warnings(alloc, &mut page, facts)?;
     let (config, whole) = (net.config(), explanation.whole(alloc)?);
     let unit = if has_times { explanation.unit() } else { None };
     push_whole(alloc, &mut page, unit, net.rounds(), &whole, by_weight)?;
-    push_limits(&mut page, limits);
+    push_limits(alloc, &mut page, limits)?;
     push_weights(&mut page, config);
     let captions = Captions::of(config, explanation);
     let drivers = blame_of(alloc, explanation, Grouping::Driver)?;
@@ -66,6 +70,20 @@ pub fn page(
         push_blames(alloc, &mut page, captions, explanation, unit, &drivers)?;
     }
     page.finish()
+}
+
+// Puts a line on the page for each thing to beware of.
+fn push_warnings(
+    alloc: Global,
+    page: &mut Page,
+    facts: Option<&CaptureFacts>,
+) -> Result<(), AllocError> {
+    if let Some(facts) = facts {
+        for warning in &facts_warnings(alloc, facts)? {
+            page.words(&["warning: ", warning, "\n"]);
+        }
+    }
+    Ok(())
 }
 
 // Puts what the waiting cost on the page, and what it would have cost by weight.

@@ -1,18 +1,24 @@
 //! Limits of latency.
 
 use crate::limited::Limited;
-use wording::{Page, push_numbers};
+use std::alloc::{AllocError, Global};
+use wording::{Page, push_numbers, shown_name};
 
 /// Puts on the page how each limit was kept, if one was asked for.
-pub(crate) fn push_limits(page: &mut Page, limits: &[Limited<'_>]) {
+pub(crate) fn push_limits(
+    alloc: Global,
+    page: &mut Page,
+    limits: &[Limited<'_>],
+) -> Result<(), AllocError> {
     if limits.is_empty() {
-        return;
+        return Ok(());
     }
     page.put("\nLatencies, from arrival to completion:\n\n");
     for limit in limits {
         let counts = limit.counts;
         let kept = if counts.met { "met" } else { "missed" };
-        page.show(format_args!("  {:<24} {kept:<6}", limit.word));
+        let word = shown_name(alloc, limit.word)?;
+        page.show(format_args!("  {word:<24} {kept:<6}"));
         push_numbers(
             page,
             &[
@@ -25,4 +31,5 @@ pub(crate) fn push_limits(page: &mut Page, limits: &[Limited<'_>]) {
             " by the device\n",
         );
     }
+    Ok(())
 }

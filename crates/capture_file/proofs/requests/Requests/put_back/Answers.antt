@@ -1,6 +1,6 @@
 use Rattle.std.proofs.Common.{◌≡◌, ℕ, List, ◌∙◌, sym, ap, refl}
 use Rattle.capture_file.specs.declared.attempt.State.TheVariants.{PutBack}
-use Rattle.capture_file.specs.Attempts.{Attempt, put, with_id, first_in_flight}
+use Rattle.capture_file.specs.Attempts.{Attempt, put, with_id, newest_at}
 use Rattle.capture_file.specs.Events.{Known, with_next, with_put_back, put_back_at}
 use Rattle.capture_file.proofs.KnownLemmas.{below_put, next_found, next_put}
 use Rattle.capture_file.proofs.requests.Requests.put_back.Goals as goal
@@ -27,5 +27,5 @@ returns-clause-ok c =
     ap (λ (all : List Attempt). let x : Known = record { skew = c.self-2.inside.skew; next = c.self-2.inside.next; attempts = all } in x) list
     ∙ ap (λ (x : Known). let y : Known = record x { attempts = put a x.attempts } in y) after
     ∙ next_put k a b b.place c.args.time b.arrival c.self.invariant c.in-Some.ensures.at refl
-    ∙ ap (with_put_back c.args.time k) c.in-Some.ensures.first
-    ∙ ap (λ (x : Known). with_put_back c.args.time x (first_in_flight c.args.place x.attempts)) c.self.view_is
+    ∙ ap (with_put_back c.args.time k) c.in-Some.ensures.newest
+    ∙ ap (λ (x : Known). with_put_back c.args.time x (newest_at c.args.place c.args.sent x.attempts)) c.self.view_is

@@ -1,8 +1,0 @@
-use Rattle.capture_file.proofs.LawLemmas.{longest_waits, longest_flies}
-use Rattle.capture_file.proofs.laws.longest_come_first.Goals as goal
-
-pub returns-clause-waiting : goal.returns-clause-waiting
-returns-clause-waiting c = λ place. longest_waits place c.args.requests.now.attempts c.get-first.ensures.rising
-
-pub returns-clause-in_flight : goal.returns-clause-in_flight
-returns-clause-in_flight c = λ place. longest_flies place c.args.requests.now.attempts c.get-first.ensures.rising

@@ -200,7 +200,7 @@ class Events(Reader):
         self.attempts: list[Request] = []
         # Those that wait or fly, by device and sector; of flushes and commands there is none.
         self.open: dict[tuple[str, int | None], list[Request]] = {}
-        # The writes that were completed once, by device and the sector after them.
+        # The writes that were completed once, by device and first sector.
         self.written: dict[tuple[str, int], list[Request]] = {}
         self.starts: set[str] = set()
         # The devices of requests that were completed and never started, and when others of which nothing was seen before were completed.
@@ -349,26 +349,31 @@ class Events(Reader):
         idle = [it.device for it in seen if it.device not in self.starts]
         self.counts["requests_without_starts"] = len(idle) + sum(d not in self.starts for d in self.ended)
         self.counts["lost_starts"] = sum(d in self.starts for d in self.ended)
-        self.sort_unknown()
         return [it for it in seen if it.device in self.starts]
 
+    def finish(self) -> list[Request]:
+        taken = super().finish()
+        self.sort_unknown()
+        return taken
+
     def sort_unknown(self) -> None:
-        """Of what was completed and not seen before: flights from before the capture, if they then took no longer than others of the device;
-        the others have lost their starts."""
-        longest: dict[str, int] = {}
+        """Of what was completed and not seen before, at devices that are taken: flights from before the capture, if they then took no longer
+        than others of the device; the others have lost their starts."""
+        longest = dict.fromkeys(self.devices, 0)
         for it in self.attempts:
-            if it.completed is not None and it.started is not None:
-                longest[it.device] = max(longest.get(it.device, 0), it.completed - it.started)
+            if it.completed is not None and it.started is not None and it.device in longest:
+                longest[it.device] = max(longest[it.device], it.completed - it.started)
         begin = self.begin or 0
         for device, time in self.unknown:
-            if device not in self.starts:
-                self.counts["requests_without_starts"] += 1
-            elif time > begin + longest.get(device, 0):
-                self.counts["lost_starts"] += 1
-            else:
+            name = self.options.listed(device) or ""
+            if device not in self.starts or name not in longest:
+                continue
+            if time <= begin + longest[name]:
                 # (one that ends where the capture begins holds no slot)
                 self.counts["from_before"] += 1
-                self.before.append((self.options.listed(device) or "", begin, time))
+                self.before.append((name, begin, time))
+            else:
+                self.counts["lost_starts"] += 1
 
 
 class Blkparse(Events):

@@ -120,12 +120,14 @@ impl<'a> EventReader<'a> {
         for tried in self.requests.attempts().values() {
             match self.attempt(tried) {
                 Some(attempt) => {
-                    match tried.arrival {
-                        None => {
+                    match (tried.arrival, tried.state) {
+                        // Its next attempt is counted.
+                        (None, State::PutBack { .. }) => {}
+                        (None, _) => {
                             counts.without_arrival = counts.without_arrival.saturating_add(1);
                         }
-                        Some(_) if attempt.is_taken => {}
-                        Some(_) => counts.other_times = counts.other_times.saturating_add(1),
+                        (Some(_), _) if attempt.is_taken => {}
+                        (Some(_), _) => counts.other_times = counts.other_times.saturating_add(1),
                     }
                     push_parts(&attempt, &mut requests, &mut started)?;
                     if attempt.is_taken
@@ -312,7 +314,8 @@ impl<'a> EventReader<'a> {
                     && is_write
                 {
                     let start = tried.state.start();
-                    self.written.insert((place.device, sector, start, tried.id))?;
+                    self.written
+                        .insert((place.device, sector, start, tried.id))?;
                 }
             }
             Ending::NeverStarted(_) => self.devices.count_end(place.device as usize),

@@ -186,5 +186,13 @@ class Recording(Input):
 
 
 def read(text, trace=Trace, recording=Recording):
-    """The model of a text."""
+    """The model of a text, behind its comments."""
+    text = without_comments(text)
     return (recording if text.startswith("camrecord") else trace)(text)
+
+
+def without_comments(text):
+    """A text without the lines before it that say how it was made."""
+    while text.startswith("#"):
+        text = text.partition("\n")[2]
+    return text

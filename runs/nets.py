@@ -55,7 +55,7 @@ class Net:
 
 def read(text):
     """The net of the trace or recording that this text is."""
-    return Net(model.read(text), "recording" if text.startswith("camrecord") else "trace")
+    return Net(model.read(text), "recording" if model.without_comments(text).startswith("camrecord") else "trace")
 
 
 def cost(net, rounds):

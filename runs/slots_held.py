@@ -94,7 +94,7 @@ def hold_flights(name: str, slow: SlowFlights, flights: Flights, has_depth: bool
     same(f"{name}, more than its slots", max([0, *(len(slow.at(time)) for time in slow.times)]) > slow.slots, False)
     if not has_depth:
         cut = [at for at, end in enumerate(slow.until) if end < slow.uncut[at]]
-        same(f"{name}, what is cut and is known", [at for at in cut if not slow.is_missing[at]], [])
+        same(f"{name}, what is cut and is known", [at for at in cut if not slow.is_guess[at]], [])
 
 
 def hold_caps(given: Made, capture: Capture) -> tuple[Recording, str]:

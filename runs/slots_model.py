@@ -83,12 +83,13 @@ def times_of_service(requests: list[Request]) -> list[int]:
 
 @dataclass
 class Flight:
-    """A request in flight, up to its end. If that is of its completion, the flight says how long the service is; if the capture lacks the
-    completion, it is missing, and the end is a guess."""
+    """A request in flight, up to its end. If that is of its completion, the flight says how long the service is; if the capture has none, the
+    end is a guess; and the completion is missing, unless the capture ended first."""
     number: int
     start: int
     end: int
     is_completed: bool = False
+    is_guess: bool = False
     is_missing: bool = False
 
 
@@ -108,13 +109,13 @@ class Flights:
                 flights.append(Flight(0, it.start, it.put_back if it.completion is None else it.completion, it.completion is not None))
             elif services and it.start + longest < last:
                 # (others that were started with it, or later, are completed: it has lost its completion)
-                flights.append(Flight(0, it.start, it.start + usual, is_missing=True))
+                flights.append(Flight(0, it.start, it.start + usual, is_guess=True, is_missing=True))
             else:
-                flights.append(Flight(0, it.start, max(capture.last, it.start + usual)))
+                flights.append(Flight(0, it.start, max(capture.last, it.start + usual), is_guess=True))
         for number, flight in enumerate(flights):
             flight.number = number
         self.missing = sum(flight.is_missing for flight in flights)
-        known = counts([(it.start, it.end) for it in flights if not it.is_missing and it.start < it.end])
+        known = counts([(it.start, it.end) for it in flights if not it.is_guess and it.start < it.end])
         self.slots = capture.depths.get(name, max([1, *(number for _, number in known)]))
         self.all = sorted(flights, key=lambda it: (it.start, it.number))
         self.cut()
@@ -139,7 +140,7 @@ class Flights:
     def first_to_go(flying: list[Flight], new: Flight) -> Flight:
         """The one that ends where a new one starts: one whose end is a guess before others, and of these that which would end last. The new
         one doesn't go if another one was there before it."""
-        guessed = [it for it in flying if it.is_missing] or [new] * new.is_missing
+        guessed = [it for it in flying if it.is_guess] or [new] * new.is_guess
         is_new_alike = all(it.start == new.start for it in flying)
         return max(guessed or [*flying, *[new] * is_new_alike], key=lambda it: (it.end, it.number))
 

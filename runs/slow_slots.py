@@ -13,14 +13,15 @@ class SlowFlights:
         started = [request for request in capture.requests if request.device == name and request.start is not None]
         self.own = before + sorted(started, key=lambda request: request.number)
         self.done = [at for at, request in enumerate(self.own) if request.completion is not None]
-        self.until, self.is_missing = [], []
+        self.until, self.is_missing, self.is_guess = [], [], []
         for request in self.own:
             self.is_missing.append(self.has_lost_its_end(request))
+            self.is_guess.append(request.completion is None and request.put_back is None)
             known = [time for time in (request.completion, request.put_back) if time is not None]
             guess = request.start + self.mean()
             self.until.append(known[0] if known else guess if self.is_missing[-1] else max(guess, capture.last))
         self.times = range(min([request.start for request in self.own], default=0), max(self.until, default=0))
-        known = [[at for at in self.at(time) if not self.is_missing[at]] for time in self.times]
+        known = [[at for at in self.at(time) if not self.is_guess[at]] for time in self.times]
         self.slots = capture.depths.get(name, max([1, *map(len, known)]))
         self.uncut = list(self.until)
         self.cut()
@@ -50,7 +51,7 @@ class SlowFlights:
             there = [at for at, request in enumerate(self.own) if request.start < time < self.until[at]]
             for new in [at for at, request in enumerate(self.own) if request.start == time < self.until[at]]:
                 if len(there) == self.slots:
-                    going = [at for at in there if self.is_missing[at]] or [new][:self.is_missing[new]] or there
+                    going = [at for at in there if self.is_guess[at]] or [new][:self.is_guess[new]] or there
                     if going is there and all(self.own[at].start == time for at in there):
                         going = [*there, new]
                     going = [at for at in going if self.until[at] == max(self.until[it] for it in going)]

@@ -150,9 +150,11 @@ fn extent_of(text: &[u8]) -> Result<Extent, LineFault> {
 fn extent_from(sector: u64, text: &[u8]) -> Result<Extent, LineFault> {
     let (second, rest) = word(text)?;
     match second.first() {
-        Some(b'+') => Ok(Extent::Sectors(sector, sectors_of(rest)?)),
-        Some(b'(') => Ok(Extent::None(None)),
-        Some(b'[') => Ok(Extent::None(Some(sector))),
+        Some(b'+') => match sectors_of(rest)? {
+            0 => Ok(Extent::None(Some(sector))),
+            sectors => Ok(Extent::Sectors(sector, sectors)),
+        },
+        Some(b'(' | b'[') => Ok(Extent::None(Some(sector))),
         _ => Err(LineFault::NotAnEvent),
     }
 }

@@ -60,16 +60,19 @@ struct Services {
 struct Holder {
     start: u64,
     end: u64,
+    // Whether nothing in the input says when it ended: it raises no number of slots, and ends where others need its slot.
+    is_guessed: bool,
+    // Whether it isn't one that flies when the capture ends.
     is_missing: bool,
     is_completed: bool,
 }
 
-/// What holds the slots of a device, each up to an end that is known or guessed: after the page's rule. One that was in flight when the
-/// capture began holds a slot from then on, if its completion comes no later than the longest service after it; a later completion without
-/// a start is that of a lost start. One without a completion flies at the end if no completion came later than the longest service
-/// after its start; it lasts to the end of the capture, and at least for the mean service. Else its completion is missing: it lasts for
-/// the mean service and raises no number of slots. If one more than the slots would be in flight, a missing one ends there, or else the
-/// one that would end last; of equal ends the later one of the input.
+/// What holds the slots of a device, each up to an end that is known or guessed. One that was in flight when the capture began holds a slot
+/// from then on, if its completion comes no later than the longest service after it; a later completion without a start is that of a lost
+/// start. One without a completion raises no number of slots. It flies at the end if no completion came later than the longest service
+/// after its start: then it lasts to the end of the capture, and at least for the mean service. Else its completion is missing, and it
+/// lasts for the mean service. If one more than the slots would be in flight, one without a completion ends there, or else the one that
+/// would end last; of equal ends the later one of the input.
 pub fn settle(
     alloc: Global,
     device: u32,
@@ -96,6 +99,7 @@ pub fn settle(
             holders.push(Holder {
                 start: times.begin,
                 end: one.time,
+                is_guessed: false,
                 is_missing: false,
                 is_completed: false,
             })?;
@@ -159,19 +163,18 @@ impl Services {
 fn holder_of(one: Started, times: Times, services: Services) -> Holder {
     let start = one.start;
     let guess = start.saturating_add(services.mean());
-    let (end, is_missing, is_completed) = match one.end {
-        End::Completed(end) => (end, false, true),
-        End::PutBack(end) => (end, false, false),
-        End::Unknown if start.saturating_add(services.longest) >= services.last => {
-            (guess.max(times.end), false, false)
-        }
-        End::Unknown => (guess, true, false),
+    let flies_at_end = start.saturating_add(services.longest) >= services.last;
+    let (end, is_guessed) = match one.end {
+        End::Completed(end) | End::PutBack(end) => (end, false),
+        End::Unknown if flies_at_end => (guess.max(times.end), true),
+        End::Unknown => (guess, true),
     };
     Holder {
         start,
         end,
-        is_missing,
-        is_completed,
+        is_guessed,
+        is_missing: is_guessed && !flies_at_end,
+        is_completed: matches!(one.end, End::Completed(_)),
     }
 }
 
@@ -184,7 +187,7 @@ fn by_start(alloc: Global, holders: &[Holder]) -> Result<BTreeSet<(u64, usize)>,
     Ok(order)
 }
 
-// The most of those that aren't missing that were in flight at one time, at least 1. An end comes before a start of the same time.
+// The most whose ends are known that were in flight at one time, at least 1. An end comes before a start of the same time.
 fn most_known(
     alloc: Global,
     holders: &[Holder],
@@ -195,7 +198,7 @@ fn most_known(
     for (start, place) in order.iter() {
         land(&mut flying, *start);
         if let Some(holder) = holders.get(*place)
-            && !holder.is_missing
+            && !holder.is_guessed
             && holder.end > *start
         {
             flying.insert((holder.end, *place))?;
@@ -222,9 +225,9 @@ fn play(
     order: &BTreeSet<(u64, usize)>,
     holders: &mut Vec<Holder>,
 ) -> Result<(), AllocError> {
-    let (mut missing, mut known) = (BTreeSet::new(alloc), BTreeSet::new(alloc));
+    let (mut guessed, mut known) = (BTreeSet::new(alloc), BTreeSet::new(alloc));
     for (start, place) in order.iter() {
-        land(&mut missing, *start);
+        land(&mut guessed, *start);
         land(&mut known, *start);
         let Some(holder) = holders.get(*place).copied() else {
             continue;
@@ -233,23 +236,23 @@ fn play(
         if holder.end <= *start {
             continue;
         }
-        if missing.len().saturating_add(known.len()) < slots as usize {
-            let flying = if holder.is_missing {
-                &mut missing
+        if guessed.len().saturating_add(known.len()) < slots as usize {
+            let flying = if holder.is_guessed {
+                &mut guessed
             } else {
                 &mut known
             };
             flying.insert(spot)?;
-        } else if let Some(last) = missing.last().copied() {
-            missing.remove(&last);
+        } else if let Some(last) = guessed.last().copied() {
+            guessed.remove(&last);
             cut(holders, last.1, *start);
-            let flying = if holder.is_missing {
-                &mut missing
+            let flying = if holder.is_guessed {
+                &mut guessed
             } else {
                 &mut known
             };
             flying.insert(spot)?;
-        } else if holder.is_missing {
+        } else if holder.is_guessed {
             cut(holders, *place, *start);
         } else {
             let last = last_known(&known, spot, *start, holders);

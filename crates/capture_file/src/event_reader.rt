@@ -60,10 +60,11 @@ pub struct EventReader<'a> {
     // The ids of the attempts that were given away last, and of those in flight how many were when they were started.
     given: Vec<u64>,
     numbers: BTreeMap<u64, u32>,
-    // The completed writes that may be completed a second time, by their device, first sector, start and id; when those
-    // were that are; and completions of what was neither started nor waits.
+    // The completed writes that may be completed a second time, by their device, first sector, start and id.
     written: BTreeSet<(u32, u64, u64, u64)>,
+    // When writes were completed a second time, by their ids.
     done: BTreeMap<u64, u64>,
+    // Completions of what was neither started nor waits.
     unstarted: Vec<Unstarted>,
     // The first time of a line.
     begin: Option<u64>,

@@ -56,15 +56,22 @@ pub fn note_on<D>(alloc: Global, failure: &Failure, input: &Source<'_, D>) -> Op
     }
 }
 
+/// Whether a text isn't a trace or a recording by its first record.
+pub fn is_bad_header(failure: &Failure) -> bool {
+    matches!(
+        failure,
+        Failure::Audit(
+            AuditFault::Trace(TraceFault::BadHeader)
+                | AuditFault::Recording(RecordingFault::BadHeader)
+        )
+    )
+}
+
 /// What a capture is that was given in the place of a trace or a recording, and what to do with it.
 pub fn capture_note<D>(alloc: Global, failure: &Failure, input: &Source<'_, D>) -> Option<String> {
     match failure {
-        Failure::Audit(AuditFault::Trace(TraceFault::BadHeader))
-        | Failure::Audit(AuditFault::Recording(RecordingFault::BadHeader)) => {
+        failure if is_bad_header(failure) => {
             let front = input.front();
-            if front.is_empty() {
-                return format!(in alloc; "camxpt: there is nothing in it\n").ok();
-            }
             if let Some(packed) = front.packed() {
                 return format!(in alloc; "camxpt: {packed}\n").ok();
             }

@@ -6,7 +6,9 @@ use crate::completion::script;
 use crate::failure::Failure;
 use crate::import_run::import;
 use crate::limits::{Limit, limits_of};
-use crate::note::{STANDARD_OUTPUT, capture_note, note_on, reason_note, tell, tell_note, tell_of};
+use crate::note::{
+    STANDARD_OUTPUT, capture_note, is_bad_header, note_on, reason_note, tell, tell_note, tell_of,
+};
 use crate::output::{Output, is_unread, print, standard_output};
 use crate::progress::ProgressLine;
 use crate::proof_run::prove;
@@ -288,12 +290,20 @@ fn over_trace<T: Threads + Sync, D: Read + Drop>(
 ) -> Result<ExitCode, Failure> {
     let mut out = standard_output(rt);
     let line = ProgressLine::new(rt, on_terminal);
+    let is_one_line = matches!(run, TraceRun::Check | TraceRun::Audit { .. });
     let done = run.over(rt, threads, &line, &mut trace, &mut out);
     line.clear();
     match done {
         Ok(()) => Ok(ExitCode::SUCCESS),
         Err(failure @ (Failure::NoSuchDriver(_) | Failure::NoSuchResource(_, _))) => Err(failure),
-        Err(failure) => Ok(tell_on(rt, &failure, &trace, &out)),
+        Err(failure) => {
+            let status = tell_on(rt, &failure, &trace, &out);
+            // (what checks and audits say of a text is one line)
+            if !is_one_line && trace.front().is_empty() && is_bad_header(&failure) {
+                let _ = rt.eprintln("camxpt: there is nothing in it");
+            }
+            Ok(status)
+        }
     }
 }
 

@@ -1,5 +1,5 @@
 -- what holds of each event
-use Rattle.std.specs.Prelude.{◌≡◌, ℕ, ◌==◌, ◌⊎◌, false, if◌then◌else◌, List, [], ◌∷◌, map, Option, None, is_some, IfSome}
+use Rattle.std.specs.Prelude.{◌≡◌, ℕ, ◌==◌, ◌⊎◌, false, if◌then◌else◌, List, [], ◌∷◌, Option, None, is_some, IfSome}
 use Rattle.capture_file.specs.declared.attempt.Place.{Place}
 use Rattle.capture_file.specs.declared.attempt.Sent.{Sent}
 use Rattle.capture_file.specs.declared.attempt.Tag.{Tag}
